@@ -1,0 +1,70 @@
+-- A test that is computed over a whole list, or over every number below one, says its fact at each entry.
+-- By recursion on the list or on the number; the test itself is computed once, where the law is cited with `tt`.
+use mathlib.Core.Path.{_≡_, refl, _∙_, ap, subst, sym}
+use mathlib.Core.Bool.{Bool, true, false}
+use mathlib.Core.List.{List, [], _∷_}
+use mathlib.Core.Logic.{_⊎_, inl, inr}
+use Prim.Native.Nat.{ℕ, zero, suc, _+_, _<_, _≤_, zero-le}
+use native.Mathlib.Nat.{add-zero, zero-add, add-suc, suc-add, le-of-suc-le-suc, not-suc-le-zero}
+use native.Mathlib.Omega.{arith}
+use lib.Dec.{T, leb, leb→le}
+use lib.IntN.{ℤ, pos, natAbs}
+use lib.ListN.{length, getD}
+use Rattle.integers.specs.Range.{Within}
+
+abbrev pub both : Bool → Bool → Bool
+both true b = b
+both false b = false
+
+pub both-left : (a b : Bool) → T (both a b) → T a
+both-left true b t = tt
+both-left false b t = t
+
+pub both-right : (a b : Bool) → T (both a b) → T b
+both-right true b t = t
+both-right false b t = absurd t
+
+-- ---- the test f passes at each entry of the list and its place, counted from i
+abbrev pub every : (ℕ → ℕ → Bool) → ℕ → List ℕ → Bool
+every f i [] = true
+every f i (x ∷ xs) = both (f i x) (every f (suc i) xs)
+
+from : (f : ℕ → ℕ → Bool) (xs : List ℕ) (i : ℕ) → T (every f i xs) → (k : ℕ) → k < length xs → T (f (i + k) (getD xs k 0))
+from f [] i t k h = absurd (not-suc-le-zero h)
+from f (x ∷ xs) i t zero h = subst (λ (m : ℕ). T (f m x)) (sym (add-zero i)) (both-left (f i x) (every f (suc i) xs) t)
+from f (x ∷ xs) i t (suc k) h =
+    subst (λ (m : ℕ). T (f m (getD xs k 0))) (suc-add i k ∙ sym (add-suc i k))
+    (from f xs (suc i) (both-right (f i x) (every f (suc i) xs) t) k (le-of-suc-le-suc h))
+
+pub at : (f : ℕ → ℕ → Bool) (xs : List ℕ) → T (every f 0 xs) → (k : ℕ) → k < length xs → T (f k (getD xs k 0))
+at f xs t k h = subst (λ (m : ℕ). T (f m (getD xs k 0))) (zero-add k) (from f xs 0 t k h)
+
+-- ---- the test f passes at each number below n
+unfoldable pub below : (ℕ → Bool) → ℕ → Bool
+below f zero = true
+below f (suc n) = both (f n) (below f n)
+
+le-split : (k n : ℕ) → k < suc n → (k ≡ n) ⊎ (k < n)
+le-split zero zero h = inl refl
+le-split zero (suc n) h = inr (omega arith)
+le-split (suc k) zero h = absurd (omega arith)
+le-split (suc k) (suc n) h = elim (le-split k n (omega arith)) [ inl e ↦ inl (ap suc e) | inr l ↦ inr (omega arith) ]
+
+pub from-below : (f : ℕ → Bool) (n : ℕ) → T (below f n) → (k : ℕ) → k < n → T (f k)
+unfolding below
+from-below f zero t k h = absurd (omega arith)
+from-below f (suc n) t k h =
+    elim (le-split k n h) [
+      | inl e ↦ subst (λ (m : ℕ). T (f m)) (sym e) (both-left (f n) (below f n) t)
+      | inr l ↦ from-below f n (both-right (f n) (below f n) t) k l
+    ]
+
+-- ---- a bound on each entry of a table of signed numbers, and of a table of rows of them
+abbrev pub allWithin : ℕ → List ℤ → Bool
+allWithin n [] = true
+allWithin n (z ∷ zs) = both (leb (natAbs z) n) (allWithin n zs)
+
+pub all-within : (n : ℕ) (zs : List ℤ) → T (allWithin n zs) → (i : ℕ) → Within n (getD zs i (pos 0))
+all-within n [] t i = record { within = zero-le }
+all-within n (z ∷ zs) t zero = record { within = leb→le (natAbs z) n (both-left (leb (natAbs z) n) (allWithin n zs) t) }
+all-within n (z ∷ zs) t (suc i) = all-within n zs (both-right (leb (natAbs z) n) (allWithin n zs) t) i

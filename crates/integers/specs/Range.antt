@@ -1,0 +1,17 @@
+-- Ranges of whole numbers, each a record, so that a proof can infer the bound from it.
+use Prim.Native.Nat.{ℕ, suc, _+_, _*_, _/_, _^_, _≤_, _<_}
+use lib.IntN.{ℤ, natAbs}
+
+-- z lies from -n to n
+pub record Within (n : ℕ) (z : ℤ) : Type 0 where
+  pub within : natAbs z ≤ n
+
+-- the product of a and b fits 64 bits
+pub record ProductFits (a b : ℤ) : Type 0 where
+  pub product : natAbs a * natAbs b < 2 ^ 63
+
+-- every step of floor(a b / d) fits 64 bits, where the product itself need not: with b = q d + s and a = u d + v, these
+-- are a q, u s, v s and the sum of the first two with floor(v s / d)
+pub record SplitFits (a b d : ℤ) : Type 0 where
+  pub sums : natAbs a * (natAbs b / natAbs d) + natAbs a / natAbs d * natAbs d + natAbs d < 2 ^ 63
+  pub rests : natAbs d * natAbs d < 2 ^ 63
