@@ -8,8 +8,8 @@ use mathlib.Core.Bool.{Bool, true, false}
 use lib.Dec.{leb}
 use lib.IntN.{ℤ, pos, negsuc, negℤ, natAbs, subℕ, _+ℤ_, _-ℤ_, _*ℤ_, negℤ-negℤ, +ℤ-comm}
 use borrow.Author.Tests.{le-leb, lt-leb}
-use Rattle.integers.specs.Range.{Within}
-use Rattle.integers.proofs.Ring.{sub-ge, sub-lt, sub-shift, neg-is, abs-sub, abs-neg, apart}
+use Rattle.integers.specs.Range.{Within, apart}
+use Rattle.integers.proofs.Ring.{sub-ge, sub-lt, sub-shift, neg-is, abs-sub, abs-neg}
 use Rattle.angles.specs.Unit.{oneTurn}
 use Rattle.angles.specs.Sine.{halfSine, withSignOf, sineOf, cosineOf}
 use Rattle.angles.proofs.Steps.{half-top, half-zero, half-mirror, half-step, half-past}

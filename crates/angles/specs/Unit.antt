@@ -11,6 +11,10 @@ millionths a = a .0
 abbrev pub hundredMillionths : Element → ℤ
 hundredMillionths e = e .0
 
+-- the angle of a count
+abbrev pub angleOf : ℤ → Angle
+angleOf n = record { 0 = n }
+
 -- 01, step 2: element counts of a degree become angle counts, "divided by 100 with floor"
 abbrev pub inMillionths : ℤ → ℤ
 inMillionths e = floorDiv e 100

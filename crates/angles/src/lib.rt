@@ -146,6 +146,20 @@ pub fn half_sine_by(table: &[u32; 901], t: u64) -> u64
     quarter_sine_by(table, folded(t))
 }
 
+// By how much the sine changes in the tenth of a degree around t, t from 0 to 180 degrees. Only guesses go by it, so it
+// promises no more than its range.
+pub fn rise_by(table: &[u32; 901], t: u64) -> u64
+    requires { ⌜ now table ≡ sines ⌝ }
+    requires { ⌜ t ≤ 180000000 ⌝ }
+    ensures { λ r. ⌜ r ≤ 1745328 ⌝ }
+{
+    let k = (folded(t) / 100_000) as usize;
+    if k == 900 {
+        return 0;
+    }
+    entry_by(table, k + 1) - entry_by(table, k)
+}
+
 // The sine of t that lies in one turn.
 fn turn_sine_by(table: &[u32; 901], t: i64) -> i64
     requires { ⌜ now table ≡ sines ⌝ }

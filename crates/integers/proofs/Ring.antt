@@ -6,6 +6,7 @@ use native.Mathlib.Nat as NatL
 use mathlib.Core.Path.{_≡_, refl, sym, _∙_, ap}
 use lib.IntN.{ℤ, pos, negsuc, natAbs, negℤ, subℕ, _+ℤ_, _-ℤ_, _*ℤ_, +ℤ-assoc, +ℤ-comm, *ℤ-comm}
 use lib.Signed.{_≤ℤ_, _<ℤ_}
+use Rattle.integers.specs.Range.{apart}
 use Rattle.integers.proofs.Difference.{up, dn, zarith, d-sub, d-add, d-minus, d-mul, d-abs, abs-d, ext, d-le, d-lt, up-neg, dn-neg}
 
 pub *ℤ-distrib-l : (a b c : ℤ) → a *ℤ (b +ℤ c) ≡ a *ℤ b +ℤ a *ℤ c
@@ -72,10 +73,6 @@ neg-is n = ext (negℤ (pos n)) (subℕ 0 n) (omega (arith, d-sub 0 n, up-neg (p
 
 pub sub-sub : (d a b : ℕ) → subℕ a d -ℤ subℕ b d ≡ subℕ a b
 sub-sub d a b = ext (subℕ a d -ℤ subℕ b d) (subℕ a b) (omega (arith, d-minus (subℕ a d) (subℕ b d), d-sub a d, d-sub b d, d-sub a b))
-
--- how far apart two numbers are
-abbrev pub apart : ℕ → ℕ → ℕ
-apart a b = (a - b) + (b - a)
 
 pub abs-sub : (d a b : ℕ) → natAbs (subℕ a d -ℤ subℕ b d) ≡ apart a b
 abs-sub d a b = ap natAbs (sub-sub d a b) ∙ one (subℕ a b) (d-sub a b)

@@ -1,5 +1,5 @@
 -- Ranges of whole numbers, each a record, so that a proof can infer the bound from it.
-use Prim.Native.Nat.{ℕ, suc, _+_, _*_, _/_, _^_, _≤_, _<_}
+use Prim.Native.Nat.{ℕ, _+_, _-_, _*_, _/_, _^_, _≤_, _<_}
 use lib.IntN.{ℤ, natAbs}
 
 -- z lies from -n to n
@@ -15,3 +15,7 @@ pub record ProductFits (a b : ℤ) : Type 0 where
 pub record SplitFits (a b d : ℤ) : Type 0 where
   pub sums : natAbs a * (natAbs b / natAbs d) + natAbs a / natAbs d * natAbs d + natAbs d < 2 ^ 63
   pub rests : natAbs d * natAbs d < 2 ^ 63
+
+-- how far apart two numbers are
+abbrev pub apart : ℕ → ℕ → ℕ
+apart a b = (a - b) + (b - a)

@@ -1,0 +1,192 @@
+// Kepler's equation in whole numbers: the eccentric anomaly that leaves the least error, for every mean anomaly.
+// The search keeps a bracket that is proved; how it guesses inside it matters for speed alone.
+ghost use mathlib.Core.Path.{_≡_};
+ghost use Prim.Native.Nat.{_<_, _≤_, _+_, _-_};
+ghost use lib.IntN.{pos};
+ghost use lib.Signed.{_<ℤ_};
+ghost use Rattle.integers.specs.Range.{apart};
+ghost use Rattle.angles.specs.Unit.{millionths, hundredMillionths, oneTurn};
+ghost use Rattle.angles.specs.Sines.{sines};
+ghost use Rattle.kepler.specs.Equation.{Solves, HalfTurns};
+ghost use Rattle.kepler.specs.Eccentric.{angleAt, eccentric};
+ghost use Rattle.kepler.specs.Answer.{solvedOf};
+ghost use Rattle.kepler.specs.Search.{raised, placeOf, Nearest};
+use angles::Angle;
+use angles::Element;
+use refusals::Refusal;
+
+// The eccentric anomaly, or refusal 7.
+pub enum Solved {
+    Anomaly(Angle),
+    Refused(Refusal),
+}
+
+// What is left of place n past half a turn.
+fn past_half(n: u64) -> u64
+    requires { ⌜ n ≤ 360000000 ⌝ }
+    ensures { λ r. ⌜ (n ≤ 180000000 → r ≡ n) ⌝ }
+    ensures { λ r. ⌜ (180000000 < n → r ≡ n - 180000000) ⌝ }
+    ensures { λ r. ⌜ r ≤ 180000000 ⌝ }
+{
+    if n <= 180_000_000 { n } else { n - 180_000_000 }
+}
+
+// F at place n, raised so that it is not negative.
+fn raised_by(table: &[u32; 901], es: u64, n: u64) -> u64
+    requires { ⌜ now table ≡ sines ⌝ }
+    requires { ⌜ es ≤ 51566202 ⌝ }
+    requires { ⌜ n ≤ 360000000 ⌝ }
+    ensures { λ r. ⌜ r ≡ raised es n ⌝ }
+{
+    let p = es * angles::half_sine_by(table, past_half(n));
+    if n <= 180_000_000 {
+        1_000_000_000 * n + p
+    } else {
+        1_000_000_000 * n - p
+    }
+}
+
+fn outer_half(n: u64) -> bool {
+    n < 90_000_000 || 270_000_000 <= n
+}
+
+// How steep F is around place n. Only a guess goes by it: it says no more than that one can divide by it.
+fn slope_by(table: &[u32; 901], es: u64, n: u64) -> u64
+    requires { ⌜ now table ≡ sines ⌝ }
+    requires { ⌜ es ≤ 51566202 ⌝ }
+    requires { ⌜ n ≤ 360000000 ⌝ }
+    ensures { λ r. ⌜ 1 ≤ r ⌝ }
+{
+    let d = es * angles::rise_by(table, past_half(n)) / 100_000;
+    if outer_half(n) {
+        1_000_000_000 + d
+    } else {
+        1_000_000_000 - d
+    }
+}
+
+// Where the tangent at g meets the target. Any number may come of it.
+fn tangent(g: u64, f: u64, slope: u64, target: u64) -> u64
+    requires { ⌜ g ≤ 360000000 ⌝ }
+    requires { ⌜ target < 360000000000000000 ⌝ }
+    requires { ⌜ 1 ≤ slope ⌝ }
+{
+    if f <= target {
+        g + (target - f) / slope
+    } else {
+        let d = (f - target - 1) / slope;
+        if d < g { g - d - 1 } else { 0 }
+    }
+}
+
+// A place strictly inside the bracket: the wish, brought there, or the middle once the wishes are spent.
+fn inside(lo: u64, hi: u64, wish: u64, left: u64) -> u64
+    requires { ⌜ lo + 1 < hi ⌝ }
+    ensures { λ r. ⌜ (lo < r) × (r < hi) ⌝ }
+{
+    if left == 0 {
+        return lo + (hi - lo) / 2;
+    }
+    if wish <= lo {
+        lo + 1
+    } else if hi <= wish {
+        hi - 1
+    } else {
+        wish
+    }
+}
+
+fn fewer(left: u64) -> u64 {
+    if 0 < left { left - 1 } else { 0 }
+}
+
+// The place at which F is nearest to the target.
+fn nearest_by(table: &[u32; 901], es: u64, target: u64) -> u64
+    requires { ⌜ now table ≡ sines ⌝ }
+    requires { ⌜ es ≤ 51566202 ⌝ }
+    requires { ⌜ target < 360000000000000000 ⌝ }
+    ensures { λ r. ⌜ Nearest (raised es) 360000000 target r ⌝ }
+    ensures { λ r. ⌜ apart target (raised es r) < 1000000000 ⌝ }
+{
+    let mut lo = 0;
+    let mut hi = 360_000_000;
+    let mut low = 0;
+    let mut high = 360_000_000_000_000_000;
+    let mut wish = target / 1_000_000_000;
+    let mut left = 12;
+    while hi - lo > 1 {
+        let g = inside(lo, hi, wish, left);
+        let a = raised_by(table, es, g);
+        let b = raised_by(table, es, g + 1);
+        wish = tangent(g, a, slope_by(table, es, g), target);
+        left = fewer(left);
+        if target < a {
+            hi = g;
+            high = a;
+        } else if target < b {
+            lo = g;
+            low = a;
+            hi = g + 1;
+            high = b;
+        } else {
+            lo = g + 1;
+            low = b;
+        }
+    }
+    if target - low <= high - target {
+        lo
+    } else {
+        hi
+    }
+}
+
+// The place of an angle, counted from half a turn below.
+fn place_of(m: i64) -> u64
+    requires { ⌜ HalfTurns m ⌝ }
+    ensures { λ r. ⌜ r ≡ placeOf m ⌝ }
+{
+    (m + 180_000_000) as u64
+}
+
+fn angle_at(n: u64) -> i64
+    requires { ⌜ n ≤ 360000000 ⌝ }
+    ensures { λ r. ⌜ r ≡ angleAt n ⌝ }
+{
+    (n as i64) - 180_000_000
+}
+
+// The eccentric anomaly over a lent table, for an eccentricity from 0 to 0.9.
+pub fn eccentric_by(table: &[u32; 901], e: u64, mean: Angle) -> Angle
+    requires { ⌜ now table ≡ sines ⌝ }
+    requires { ⌜ e ≤ 90000000 ⌝ }
+    ensures { λ r. ⌜ millionths r ≡ eccentric (pos e) (millionths mean) ⌝ }
+    ensures { λ r. ⌜ Solves (pos e) (millionths mean) (millionths r) ⌝ }
+{
+    let es = e * 57_295_780 / 100_000_000;
+    let m = mean.one_turn().millionths();
+    let n = nearest_by(table, es, 1_000_000_000 * place_of(m));
+    Angle::of_millionths(angle_at(n))
+}
+
+// The eccentric anomaly of any mean anomaly at any eccentricity, over a lent table.
+pub fn solved_by(table: &[u32; 901], e: Element, mean: Angle) -> Solved
+    requires { ⌜ now table ≡ sines ⌝ }
+    ensures { λ r. ⌜ r ≡ solvedOf (hundredMillionths e) (millionths mean) ⌝ }
+{
+    let count = e.hundred_millionths();
+    if count < 0 {
+        return Solved::Refused(Refusal::NoEllipse);
+    }
+    if 90_000_000 < count {
+        return Solved::Refused(Refusal::NoEllipse);
+    }
+    Solved::Anomaly(eccentric_by(table, count as u64, mean))
+}
+
+// The eccentric anomaly of any mean anomaly at any eccentricity.
+pub fn solve(e: Element, mean: Angle) -> Solved
+    ensures { λ r. ⌜ r ≡ solvedOf (hundredMillionths e) (millionths mean) ⌝ }
+{
+    let table = angles::table::SINES;
+    solved_by(&table, e, mean)
+}
