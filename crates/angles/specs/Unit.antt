@@ -15,6 +15,10 @@ hundredMillionths e = e .0
 abbrev pub angleOf : ℤ → Angle
 angleOf n = record { 0 = n }
 
+-- the element of a count
+abbrev pub elementOf : ℤ → Element
+elementOf n = record { 0 = n }
+
 -- 01, step 2: element counts of a degree become angle counts, "divided by 100 with floor"
 abbrev pub inMillionths : ℤ → ℤ
 inMillionths e = floorDiv e 100

@@ -12,7 +12,7 @@ use lib.Signed.{mag, nonNeg, ltZ, leZ, _≤ℤ_, _<ℤ_}
 use mir.Syntax.{w64}
 use mir.Val.{Fits, SFits, toZ}
 use Rattle.integers.specs.Range.{Within, ProductFits, SplitFits}
-use Rattle.integers.specs.Floor.{floorDiv, floorMod}
+use Rattle.integers.specs.Floor.{floorDiv, floorMod, unitProduct}
 use Rattle.integers.proofs.Difference.{d-abs, zarith, eq-d}
 use Rattle.integers.proofs.Ring.{abs-mul-le, abs-add-le, abs-sub-le, abs-neg}
 use Rattle.integers.proofs.Floor.{mod-low, mod-high, quot-abs, rem-small, div-mono}
@@ -170,6 +170,17 @@ cast-num {n = n} p h t = cast-fits (p .is) h (omega (arith, p .small .within, lt
 pub of-unsigned : {a n : ℕ} → a ≤ n → T (ltb n (2 ^ 63)) → Num (toZ w64 a) (pos a) n
 of-unsigned {a} {n} h t = record { is = of-nat a (omega (arith, ltb→lt n (2 ^ 63) t)); small = record { within = h } }
 
+-- what `unit_product` asks of two numbers
+pub nums-fit : {x y z w : ℤ} {m n : ℕ} → Num x z m → Num y w n → T (ltb (m * n) (2 ^ 63)) → ProductFits x y
+nums-fit {m = m} {n} p q t = product-fits (subst (Within m) (sym (p .is)) (p .small)) (subst (Within n) (sym (q .is)) (q .small)) t
+
+-- a bound on what the machine reads back
+pub w-read : {z : ℤ} {n : ℕ} → Within n z → T (ltb n (2 ^ 63)) → Within n (read z)
+w-read {n = n} w t = subst (Within n) (sym (known w t .is)) w
+
 -- the result of `floor_div` by suc m, and of `unit_product`
 pub floored : {x y z : ℤ} {n : ℕ} (m k : ℕ) → mag x < 2 ^ 63 → x ≡ floorDiv y (suc m) → Num y z n → T (leb n (k * suc m)) → Num (read x) (floorDiv z (suc m)) k
 floored m k f e p t = got f (e ∙ (λ i. floorDiv (p .is i) (suc m))) (w-floor m k (p .small) t)
+
+pub unit-got : {x y w z v : ℤ} {m n : ℕ} (k : ℕ) → mag x < 2 ^ 63 → x ≡ unitProduct y w → Num y z m → Num w v n → T (leb (m * n) (k * 1000000000)) → Num (read x) (unitProduct z v) k
+unit-got k f e p q t = got f (e ∙ (λ i. unitProduct (p .is i) (q .is i))) (w-floor 999999999 k (w-mul (p .small) (q .small)) t)

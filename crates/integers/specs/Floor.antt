@@ -20,3 +20,8 @@ pub record IsFloor (z : ℤ) (m : ℕ) (q : ℤ) : Type 0 where
 -- document 01's `∘`: the product of two numbers of which 10^9 stands for one
 abbrev pub unitProduct : ℤ → ℤ → ℤ
 unitProduct a b = floorDiv (a *ℤ b) 1000000000
+
+-- the division by 10^9 that ends a turn and step 5 (01, "From date to place", step 5, and "Frames"). It has a name of its own, apart
+-- from `∘`, since it is rounded by a rule of its own
+abbrev pub endTurn : ℤ → ℤ
+endTurn z = floorDiv z 1000000000

@@ -5,7 +5,7 @@ ghost use Prim.Native.Nat.{_≤_};
 ghost use lib.IntN.{pos, natAbs, _*ℤ_};
 ghost use lib.Signed.{_<ℤ_};
 ghost use Rattle.integers.specs.Range.{ProductFits, SplitFits};
-ghost use Rattle.integers.specs.Floor.{floorDiv, floorMod, unitProduct};
+ghost use Rattle.integers.specs.Floor.{floorDiv, floorMod, unitProduct, endTurn};
 ghost use Rattle.integers.specs.Root.{IsRoot, rootOf};
 
 // floor(a / d). The machine divides toward zero; where that leaves a rest below zero, the floor is one less.
@@ -45,6 +45,13 @@ pub fn unit_product(a: i64, b: i64) -> i64
     ensures { λ r. ⌜ r ≡ unitProduct a b ⌝ }
 {
     floor_div(a * b, 1_000_000_000)
+}
+
+// floor(z / 10^9), the division that ends a turn and step 5. Its rounding is a rule of its own, apart from `∘`.
+pub fn end_turn(z: i64) -> i64
+    ensures { λ r. ⌜ r ≡ endTurn z ⌝ }
+{
+    floor_div(z, 1_000_000_000)
 }
 
 // A guess of a root, brought into the range of the roots of 64-bit numbers.

@@ -1,0 +1,296 @@
+"""Inputs for compare.py: the edges that document 01 names, and seeded chance.
+
+A function named some_... takes a random.Random and answers one input; most
+inputs are such as document 01 accepts, the others are just outside or wild.
+"""
+
+import math
+import struct
+
+import exact as x
+
+LEAST, MOST = -2**63, 2**63 - 1
+E_EDGES = (0, 1, 2, 89_999_999, 90_000_000)
+M_EDGES = sorted({sign * base + more for base in (0, x.QUARTER_TURN, x.HALF_TURN, x.TURN)
+                  for sign in (1, -1) for more in (-2, -1, 0, 1, 2)} | {LEAST, MOST})
+
+
+def some_i64(chance):
+    """Any 64-bit signed number: small ones, powers of two, ends, all bits."""
+    kind = chance.randrange(4)
+    if kind == 0:
+        return chance.randint(-20, 20)
+    if kind == 1:
+        near = chance.choice((1, -1)) * 2**chance.randrange(63)
+        return near + chance.randint(-1, 1)
+    if kind == 2:
+        return chance.choice((LEAST, LEAST + 1, MOST - 1, MOST))
+    return chance.randint(LEAST, MOST)
+
+
+def some_angle(chance):
+    """An angle within the turn, at an entry of the table or its end, or any."""
+    kind = chance.randrange(5)
+    if kind < 2:
+        return chance.randint(-x.HALF_TURN, x.HALF_TURN)
+    if kind == 2:
+        return chance.randint(-3700, 3700) * x.TABLE_STEP + chance.randint(-1, 1)
+    if kind == 3:
+        return chance.randint(-9, 9) * x.QUARTER_TURN + chance.randint(-2, 2)
+    return some_i64(chance)
+
+
+# ------------------------------------------------------------------ the solver
+
+def some_eccentricity(chance):
+    kind = chance.randrange(50)
+    if kind == 0:
+        return chance.choice((-1, x.E_LIMIT + 1, some_i64(chance)))
+    if kind < 5:
+        return chance.choice(E_EDGES)
+    if kind < 15:
+        return chance.choice(x.ORBITS)[0][1]
+    return chance.randint(0, x.E_LIMIT)
+
+
+def some_mean_anomaly(chance):
+    kind = chance.randrange(10)
+    if kind < 5:
+        return chance.randint(-x.HALF_TURN, x.HALF_TURN - 1)
+    if kind < 7:
+        return chance.randint(-2000, 2000)
+    if kind == 7:
+        return chance.choice((1, -1)) * x.HALF_TURN + chance.randint(-2000, 2000)
+    return some_angle(chance)
+
+
+def some_tie(chance):
+    """An e and an M for which two neighbours leave exactly the same error.
+
+    E and E + 1 tie when 2·10^9·M = F(E) + F(E + 1), so e*·(sin E + sin(E + 1))
+    must be an odd multiple of 10^9: a congruence for e*, solved for random E
+    until its least solution is an e* that some e has.
+    """
+    top = x.e_star(x.E_LIMIT)
+    while True:
+        low = chance.randint(-x.HALF_TURN, x.HALF_TURN - 1)
+        both = x.sine(low) + x.sine(low + 1)
+        common = math.gcd(both, 2 * x.UNIT)
+        if both == 0 or x.UNIT % common:
+            continue
+        modulus = 2 * x.UNIT // common
+        star = x.UNIT // common * pow(both // common, -1, modulus) % modulus
+        if star > top:
+            continue
+        star += chance.randint(0, (top - star) // modulus) * modulus
+        e = -(-star * 10**8 // 57_295_780)
+        mean = (x.kepler(star, low) + x.kepler(star, low + 1)) // (2 * x.UNIT)
+        if mean == x.one_turn(mean):
+            assert x.kepler_error(e, mean, low) == x.kepler_error(e, mean, low + 1)
+            return e, mean
+
+
+def solver_edges():
+    outside = (-1, x.E_LIMIT + 1, LEAST, MOST)
+    return ((e, mean) for e in E_EDGES + outside for mean in M_EDGES)
+
+
+def solver_cases(chance):
+    """The edges, then chance; every fiftieth case is a tie."""
+    yield from solver_edges()
+    while True:
+        yield some_tie(chance)
+        for _ in range(49):
+            yield some_eccentricity(chance), some_mean_anomaly(chance)
+
+
+# ----------------------------------------------------------------------- dates
+
+JULIAN_EDGES = (math.nan, -math.nan, math.inf, -math.inf, 0.0, -0.0, 5e-324, -5e-324,
+                2.0**-1022, 1e308, -1e308, 1.7976931348623157e308,
+                2451545.015625, 2451544.984375, 2469808.0, 2378496.5, 2469807.5)
+
+
+def some_minute(chance):
+    """Mostly in the interval; else an end or its neighbour, or any."""
+    kind = chance.randrange(20)
+    if kind == 0:
+        return some_i64(chance)
+    if kind < 3:
+        return chance.choice((x.FIRST_MINUTE, x.LAST_MINUTE, 0)) + chance.randint(-2, 2)
+    return chance.randint(x.FIRST_MINUTE, x.LAST_MINUTE)
+
+
+def near_julian(chance, minute):
+    """A double within some steps of the half minute before the minute."""
+    julian = x.EPOCH + (minute - 0.5) / 1440
+    for _ in range(chance.randint(0, 3)):
+        julian = math.nextafter(julian, chance.choice((-math.inf, math.inf)))
+    return julian
+
+
+def some_julian(chance):
+    """Mostly in the interval; half minutes, both ends, all bits, special ones."""
+    kind = chance.randrange(20)
+    if kind == 0:
+        return chance.choice(JULIAN_EDGES)
+    if kind < 3:
+        return struct.unpack("<d", chance.randbytes(8))[0]
+    if kind < 5:
+        end = chance.choice((x.FIRST_MINUTE, x.LAST_MINUTE + 1))
+        return near_julian(chance, end + chance.randint(-1, 1))
+    if kind < 10:
+        return near_julian(chance, chance.randint(x.FIRST_MINUTE, x.LAST_MINUTE))
+    if kind < 12:       # half minutes that a double holds exactly are 64ths of a day
+        return x.EPOCH + chance.randint(-4_700_000, 1_200_000) / 64
+    return chance.uniform(2378496, 2469808)
+
+
+def some_date(chance):
+    return some_julian(chance) if chance.random() < 0.4 else some_minute(chance)
+
+
+def some_number(chance, last):
+    """A body or a frame: mostly from 1 to the last, else just outside or any."""
+    kind = chance.randrange(40)
+    if kind == 0:
+        return chance.choice((0, last + 1, -1, 256, 257, 2**32 + 1))
+    if kind == 1:
+        return some_i64(chance)
+    return chance.randint(1, last)
+
+
+def some_body(chance):
+    return some_number(chance, 9)
+
+
+def some_frame(chance):
+    return some_number(chance, 5)
+
+
+# --------------------------------------------------------------------- vectors
+
+def some_part(chance):
+    kind = chance.randrange(30)
+    if kind == 0:
+        return chance.choice((1, -1)) * (x.PART_LIMIT + chance.randint(-1, 0))
+    if kind < 4:
+        return chance.randint(-20, 20)
+    return chance.randint(-x.PART_LIMIT, x.PART_LIMIT)
+
+
+def some_vector(chance):
+    """Three parts within the limit, seldom with one beyond it."""
+    vector = [some_part(chance) for _ in range(3)]
+    if chance.randrange(25) == 0:
+        sign = chance.choice((1, -1))
+        beyond = chance.choice((sign * (x.PART_LIMIT + 1), some_i64(chance)))
+        vector[chance.randrange(3)] = beyond
+    return tuple(vector)
+
+
+def some_direction(chance):
+    parts = [chance.gauss(0, 1) for _ in range(3)]
+    size = math.hypot(*parts)
+    return [part / size for part in parts]
+
+
+def place_near_axis(chance):
+    """A place whose L of S×R is near refusal 6's limit of 1,000,000."""
+    axis = [part / x.UNIT for part in x.SOLAR_AXIS]
+    other = some_direction(chance)
+    along = sum(a * b for a, b in zip(axis, other))
+    across = [b - along * a for a, b in zip(axis, other)]
+    slope = 1e-3 * (1 + chance.choice((1e-1, 1e-4, 1e-6)) * chance.uniform(-1, 1))
+    slope *= 1 / math.hypot(*across)
+    size = chance.choice((1, -1)) * chance.uniform(1e6, 4.9e8)
+    return tuple(round(size * (a + slope * b)) for a, b in zip(axis, across))
+
+
+def some_place(chance):
+    """A spacecraft's place: anywhere, near the axis, or with L near 100,000."""
+    kind = chance.randrange(10)
+    if kind < 5:
+        return some_vector(chance)
+    if kind < 8:
+        return place_near_axis(chance)
+    size = 100_000 + chance.uniform(-3, 3)
+    if kind == 8:
+        return tuple(round(size * part) for part in some_direction(chance))
+    place = [0, 0, 0]
+    place[chance.randrange(3)] = chance.choice((1, -1)) * round(size)
+    return tuple(place)
+
+
+# ------------------------------------------------------------- rows and sheets
+
+def some_good_fields(chance):
+    """The fields of a row that the reader takes."""
+    if chance.randrange(4) == 0:
+        return [chance.randint(1, 4)] + [0] * 6
+    minute = chance.choice((x.FIRST_MINUTE, x.LAST_MINUTE,
+                            chance.randint(x.FIRST_MINUTE, x.LAST_MINUTE)))
+    return [0, chance.randint(1, 9), chance.randint(1, 5), minute,
+            *(some_i64(chance) for _ in range(3))]
+
+
+def some_fields(chance):
+    """Fields to be written, often with one that makes them no row."""
+    fields = some_good_fields(chance)
+    if chance.randrange(2) == 0:
+        at = chance.randrange(7)
+        outside = (0, 1, -1, 4, 5, 6, 9, 10, 255, 256, x.FIRST_MINUTE - 1,
+                   x.LAST_MINUTE + 1, some_i64(chance))
+        fields[at] = chance.choice(outside)
+    return fields
+
+
+def some_bytes_of_row(chance):
+    """Bytes to be read: a row, a damaged one, a cut or longer one, or any bytes."""
+    content = bytearray(x.row_bytes(x.Row(*some_good_fields(chance))))
+    kind = chance.randrange(8)
+    if kind < 4:
+        at = chance.randrange(chance.choice((6, 38)))
+        content[at] = chance.choice((content[at] ^ 1 << chance.randrange(8),
+                                     chance.randrange(256), 0))
+    elif kind == 4:
+        content = content[:chance.randrange(39)]
+    elif kind == 5:
+        content += chance.randbytes(chance.randrange(40))
+    elif kind == 6:
+        content = bytearray(x.ROW_HEAD + chance.randbytes(35))
+        content[3] = chance.randrange(6)
+    return bytes(content)
+
+
+def some_buffer(chance):
+    """A buffer for one row: 38 bytes, any length up to 39, or longer."""
+    size = chance.choice((38, 38, chance.randint(0, 39), chance.randint(38, 120)))
+    return chance.randbytes(size)
+
+
+def some_start(chance):
+    """A sheet's start: near the ends often, so that sheets enter and leave."""
+    if chance.randrange(3) == 0:
+        end = chance.choice((x.FIRST_MINUTE, x.LAST_MINUTE))
+        minute = end + chance.randint(-300_000_000, 300_000_000) // 10**chance.randrange(8)
+        return minute if chance.randrange(2) else x.EPOCH + minute / 1440
+    return some_date(chance)
+
+
+def some_sheet(chance):
+    """(start, step, count, body, frame, buffer) of a sheet."""
+    step = chance.choice((1, 1_000_000, 1440, chance.randint(1, 1_000_000)))
+    count = chance.choice((chance.randint(0, 30), chance.randint(0, 30),
+                           chance.randint(0, 30), chance.randint(0, 400)))
+    kind = chance.randrange(30)
+    if kind == 0:
+        step = chance.choice((0, -1, 1_000_001, some_i64(chance)))
+    elif kind == 1:
+        count = chance.choice((-1, 401, some_i64(chance)))
+    elif kind == 2:
+        count = chance.choice((0, 1, 399, 400))
+    room = x.ROW_SIZE * min(max(count, 0), 402)
+    size = max(room + chance.choice((0, 0, 0, 0, 50, -1, -room)), 0)
+    return (some_start(chance), step, count, some_body(chance), some_frame(chance),
+            chance.randbytes(size))

@@ -1,0 +1,105 @@
+"""The project's C interface through ctypes: each call answers a plain tuple."""
+
+import ctypes
+import operator
+import os
+
+I64 = ctypes.c_int64
+DOUBLE = ctypes.c_double
+SIZE = ctypes.c_size_t
+BYTES = ctypes.POINTER(ctypes.c_uint8)
+
+
+def struct_of(whole, real=""):
+    """A struct returned by value: int64_t fields, then double fields."""
+    fields = [(name, I64) for name in whole.split()]
+    fields += [(name, DOUBLE) for name in real.split()]
+    return type("Answer", (ctypes.Structure,), {"_fields_": fields})
+
+
+STATUS_ANGLE = struct_of("status angle")
+STATUS_COUNTS = struct_of("status x y z")
+STATUS_AU = struct_of("status", "x y z")
+STATUS_ELEMENTS = struct_of(
+    "status a e inclination mean_longitude perihelion node")
+STATUS_GOOD = struct_of("status good")
+STATUS_ROW = struct_of("status row_status body frame minutes x y z")
+
+# Name without its prefix: what it answers, and its arguments.  "date" stands
+# for a call that comes twice, as _julian with a double and _minutes with a count.
+CALLS = {
+    "sine": (I64, [I64]),
+    "cosine": (I64, [I64]),
+    "eccentric_anomaly": (STATUS_ANGLE, [I64] * 2),
+    "to_rtn": (STATUS_COUNTS, [I64] * 6),
+    "from_rtn": (STATUS_COUNTS, [I64] * 6),
+    "write_row": (I64, [I64] * 7 + [BYTES, SIZE]),
+    "read_row": (STATUS_ROW, [BYTES, SIZE]),
+}
+DATED_CALLS = {
+    "elements": (STATUS_ELEMENTS, [I64]),
+    "mean_anomaly": (STATUS_ANGLE, [I64]),
+    "counts": (STATUS_COUNTS, [I64] * 2),
+    "place": (STATUS_AU, [I64] * 2),
+    "turn": (STATUS_COUNTS, [I64] * 5),
+    "row": (I64, [I64] * 2 + [BYTES, SIZE]),
+    "sheet": (STATUS_GOOD, [I64] * 4 + [BYTES, SIZE]),
+}
+
+
+class Missing(Exception):
+    """The library has no such function."""
+
+
+class Library:
+    """Calls of one shared library, looked up by their names."""
+
+    def __init__(self, path):
+        self.library = ctypes.CDLL(os.path.abspath(path))
+
+    def call(self, name):
+        """A call without a date, as a Python function."""
+        answer, arguments = CALLS[name]
+        return self.bind("lindenbrood_" + name, answer, arguments)
+
+    def dated(self, name):
+        """A call on a date: a float goes to _julian, an int to _minutes."""
+        answer, arguments = DATED_CALLS[name]
+        full = "lindenbrood_" + name
+        julian = self.bind(full + "_julian", answer, [DOUBLE] + arguments)
+        minutes = self.bind(full + "_minutes", answer, [I64] + arguments)
+
+        def either(date, *rest):
+            chosen = julian if isinstance(date, float) else minutes
+            return chosen(date, *rest)
+        return either
+
+    def bind(self, full, answer, arguments):
+        try:
+            function = getattr(self.library, full)
+        except AttributeError:
+            raise Missing(full) from None
+        function.restype, function.argtypes = answer, arguments
+        if answer is I64:
+            return function
+        parts = operator.attrgetter(*(name for name, _ in answer._fields_))
+        return lambda *given: parts(function(*given))
+
+
+class Lent:
+    """Bytes lent to the library, with more bytes behind that must not change."""
+
+    BEHIND = 16
+
+    def __init__(self, content, chance):
+        self.size = len(content)
+        whole = bytes(content) + chance.randbytes(self.BEHIND)
+        self.behind = whole[self.size:]
+        self.array = (ctypes.c_uint8 * len(whole)).from_buffer_copy(whole)
+
+    def arguments(self):
+        return self.array, self.size
+
+    def matches(self, content):
+        """The lent bytes are the wanted ones, and those behind are as before."""
+        return bytes(self.array) == bytes(content) + self.behind
