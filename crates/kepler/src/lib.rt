@@ -100,6 +100,17 @@ fn fewer(left: u64) -> u64 {
     if 0 < left { left - 1 } else { 0 }
 }
 
+// 002's first guess, (8-36): E = M + e* sin M, which is 2 M - F(M) / 10^9.
+fn first_wish_by(table: &[u32; 901], es: u64, target: u64) -> u64
+    requires { ⌜ now table ≡ sines ⌝ }
+    requires { ⌜ es ≤ 51566202 ⌝ }
+    requires { ⌜ target < 360000000000000000 ⌝ }
+{
+    let m = target / 1_000_000_000;
+    let f = raised_by(table, es, m) / 1_000_000_000;
+    if f <= 2 * m { 2 * m - f } else { m }
+}
+
 // The place at which F is nearest to the target.
 fn nearest_by(table: &[u32; 901], es: u64, target: u64) -> u64
     requires { ⌜ now table ≡ sines ⌝ }
@@ -112,7 +123,7 @@ fn nearest_by(table: &[u32; 901], es: u64, target: u64) -> u64
     let mut hi = 360_000_000;
     let mut low = 0;
     let mut high = 360_000_000_000_000_000;
-    let mut wish = target / 1_000_000_000;
+    let mut wish = first_wish_by(table, es, target);
     let mut left = 12;
     while hi - lo > 1 {
         let g = inside(lo, hi, wish, left);

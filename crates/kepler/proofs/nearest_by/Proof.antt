@@ -18,10 +18,13 @@ Inv-loop table es target lo₀ hi₀ low₀ high₀ wish₀ left₀ lo hi low hi
 abbrev μ-loop : tie.MeasureT-loop
 μ-loop table es target lo₀ hi₀ low₀ high₀ wish₀ left₀ lo hi low high wish left = hi - lo
 
+first-wish-by-requires : tie.Need-first-wish-by-requires Inv-loop μ-loop
+first-wish-by-requires c κs = search needs
+
 loop-holds : tie.Need-loop-holds Inv-loop μ-loop
 loop-holds c =
-    let z = raised-zero (c .args .es) in
-    let e = raised-end (c .args .es) in
+    let z = raised-zero (c .before .args .es) in
+    let e = raised-end (c .before .args .es) in
     omega arith
 
 sub-loop : tie.Need-sub-loop Inv-loop μ-loop
@@ -73,7 +76,7 @@ loop-again-3 : tie.Need-loop-again-3 Inv-loop μ-loop
 loop-again-3 c =
     let calls = c .before .before .before .before .before in
     let turn = calls .before .before .before in
-    let l = short (raised (turn .before .before .args .es)) (calls .before .before .inside .result + 1) (turn .before .loop .hi) (turn .before .before .args .target) (omega arith) (omega arith) (omega arith) in
+    let l = short (raised (turn .before .before .before .args .es)) (calls .before .before .inside .result + 1) (turn .before .loop .hi) (turn .before .before .before .args .target) (omega arith) (omega arith) (omega arith) in
     omega (arith, l)
 
 sub-if3 : tie.Need-sub-if3 Inv-loop μ-loop
@@ -85,7 +88,7 @@ sub-if3-2 c = omega arith
 returns : tie.Need-returns Inv-loop μ-loop
 returns c =
     let at-loop = c .before .before in
-    let start = at-loop .before in
+    let start = at-loop .before .before in
     let es = start .args .es in
     let k = at-loop .loop .inv in
     let m : at-loop .loop .hi ≡ at-loop .loop .lo + 1 = omega arith in
@@ -96,7 +99,7 @@ returns c =
 returns-2 : tie.Need-returns-2 Inv-loop μ-loop
 returns-2 c =
     let at-loop = c .before .before in
-    let start = at-loop .before in
+    let start = at-loop .before .before in
     let es = start .args .es in
     let k = at-loop .loop .inv in
     let m : at-loop .loop .hi ≡ at-loop .loop .lo + 1 = omega arith in
@@ -110,6 +113,7 @@ nearest-by-spec =
     (tie.spec
     Inv-loop
     μ-loop
+    first-wish-by-requires
     loop-holds
     sub-loop
     inside-requires
