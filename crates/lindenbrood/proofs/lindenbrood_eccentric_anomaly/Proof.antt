@@ -2,10 +2,9 @@
 -- By what each call ensures; the counts are read back once.
 use borrow.Author.Needs.{needs}
 use mathlib.Core.Path.{_≡_, ap, _∙_}
-use lib.IntN.{ℤ}
 use Rattle.integers.proofs.Cast.{back}
 use Rattle.kepler.specs.Answer.{solvedOf}
-use Rattle.lindenbrood.specs.Answer.{angleAnswer}
+use Rattle.lindenbrood.specs.Answer.{anomalyOf}
 use Rattle.lindenbrood.proofs.lindenbrood_eccentric_anomaly.Statement.{statement}
 use Rattle.lindenbrood.proofs.lindenbrood_eccentric_anomaly.Tie as tie
 
@@ -18,16 +17,16 @@ of-millionths-requires c κs = search needs
 solve-requires : tie.Need-solve-requires
 solve-requires c κs = search needs
 
-anomaly-answer-requires : tie.Need-anomaly-answer-requires
-anomaly-answer-requires c κs = search needs
+anomaly-of-requires : tie.Need-anomaly-of-requires
+anomaly-of-requires c κs = search needs
 
 returns : tie.Need-returns
 returns c =
     let m = c .before .before in
     let e = m .before in
     let s = e .before in
-    c .anomaly-answer .ensures
-    ∙ ap angleAnswer (c .before .solve .ensures ∙ (λ i. solvedOf ((e .of-hundred-millionths .ensures ∙ back (s .args .e) (s .fits .e)) i) ((m .of-millionths .ensures ∙ back (s .args .mean) (s .fits .mean)) i)))
+    c .anomaly-of .ensures
+    ∙ ap anomalyOf (c .before .solve .ensures ∙ (λ i. solvedOf ((e .of-hundred-millionths .ensures ∙ back (s .args .e) (s .fits .e)) i) ((m .of-millionths .ensures ∙ back (s .args .mean) (s .fits .mean)) i)))
 
 pub lindenbrood-eccentric-anomaly-spec : {M : Type 1} → statement M
 lindenbrood-eccentric-anomaly-spec =
@@ -36,5 +35,5 @@ lindenbrood-eccentric-anomaly-spec =
     of-hundred-millionths-requires
     of-millionths-requires
     solve-requires
-    anomaly-answer-requires
+    anomaly-of-requires
     returns)

@@ -1,0 +1,2 @@
+-- The laws of `places` that other crates cite.
+pub mod Frames
