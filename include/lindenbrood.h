@@ -1,9 +1,513 @@
+/*
+ * lindenbrood.h
+ *
+ * Heliocentric places of nine bodies, vectors turned between Sun-centred
+ * frames, and the 38-byte rows that a projector reads.
+ *
+ * Sources: E. M. Standish, approximate positions of the planets (elements and
+ * steps); M. Fraenz and D. Harper 2002, heliospheric coordinate systems
+ * (frames).  All arithmetic is in whole numbers, except for a Julian date that
+ * comes in as a double and a place that leaves as doubles.
+ *
+ * C99 and C++.  Link with liblindenbrood.a; it needs nothing but the C library.
+ *
+ *
+ * COUNTS
+ *
+ *   time      whole minutes from JD 2451545.0, ephemeris time
+ *   angle     millionths of a degree
+ *   element   hundred-millionths of a degree, of an au, or of 1
+ *   length    units of 10^-7 au
+ *   sine      units of 10^-9
+ *
+ * "Floor" is toward minus infinity.
+ *
+ *
+ * DATES
+ *
+ * A call on a date comes twice: _julian takes a Julian date as a double,
+ * _minutes takes whole minutes.  A Julian date d becomes the minute
+ * floor((d - 2451545) * 1440 + 1/2), without any rounding error, before its
+ * interval is tested.  The interval runs from minute -105189840
+ * (JD 2378496.5) to minute 26298000 (JD 2469807.5), both accepted.
+ *
+ *
+ * BODIES
+ *
+ *   1  Mercury                  4  Mars        7  Uranus
+ *   2  Venus                    5  Jupiter     8  Neptune
+ *   3  Earth-Moon barycentre    6  Saturn      9  Pluto
+ *
+ * Body 3 stands for the Earth.
+ *
+ *
+ * FRAMES (all centred on the Sun)
+ *
+ *   1  HAE   heliocentric Aries ecliptic of J2000
+ *   2  GEI   the Earth's mean equator and equinox of J2000
+ *   3  HCI   heliocentric inertial: Z is the Sun's axis, X its ascending node
+ *   4  HEE   X toward the Earth in the ecliptic of J2000, Z the ecliptic pole
+ *   5  HEEQ  Z is the Sun's axis, X on the Earth's side in the plane of both
+ *
+ * HEE and HEEQ turn with the Earth's place on the date given.
+ *
+ *
+ * STATUS NUMBERS
+ *
+ *   no.  given exactly when                                left behind
+ *    0   the call is answered                              the answer
+ *    1   the Julian date is not finite                     zeros, or a refused row
+ *    2   the minutes are outside the interval              zeros, or a refused row
+ *    3   the body is not 1 to 9                            zeros, or a refused row
+ *    4   a frame is not 1 to 5                             zeros, or a refused row
+ *    5   a part of a given vector or place is beyond       zeros
+ *        +-500000000
+ *    6   RTN: the place is too near the Sun (L of r under  zeros
+ *        100000), or too near the Sun's axis (L of S x R
+ *        under 1000000)
+ *    7   the eccentricity is under 0 or over 90000000      zero
+ *    8   the buffer is shorter than the rows asked for     buffer untouched, no good row
+ *    9   the bytes are no row, or the fields make none     zeros; a buffer untouched
+ *   10   the sheet's step is not 1 to 1000000, or its      buffer untouched, no good row
+ *        count is not 0 to 400
+ *
+ * Where several apply only the first is given: 10 comes first, then 8, then
+ * the others by number.  Only 0 to 4 stand in rows.
+ *
+ * Every integer argument may have any value: what is out of range is refused
+ * by its number, and nothing overflows.  L is the floor of the square root of
+ * the sum of the squares.
+ *
+ *
+ * LENT BYTES
+ *
+ * A call that takes `row` or `rows` uses bytes that the host lends it: `len`
+ * bytes from that address on, which nobody else writes while the call runs.
+ * Bytes at `len` and after are neither read nor written.  With `len` 0 the
+ * address is not used, and only then may it be NULL.
+ *
+ * Nothing is kept between calls and nothing is allocated, so that calls may
+ * run in several threads at once.
+ */
 #ifndef LINDENBROOD_H
 #define LINDENBROOD_H
+
 #include <stddef.h>
 #include <stdint.h>
-typedef struct { int64_t status; int64_t angle; } lindenbrood_angle_answer;
+
+#ifdef __cplusplus
+extern "C" {
+#endif
+
+enum {
+    LINDENBROOD_ANSWERED = 0,
+    LINDENBROOD_NOT_FINITE = 1,
+    LINDENBROOD_OUTSIDE_INTERVAL = 2,
+    LINDENBROOD_NO_SUCH_BODY = 3,
+    LINDENBROOD_NO_SUCH_FRAME = 4,
+    LINDENBROOD_TOO_FAR = 5,
+    LINDENBROOD_NO_DIRECTION = 6,
+    LINDENBROOD_NO_ELLIPSE = 7,
+    LINDENBROOD_SHORT_BUFFER = 8,
+    LINDENBROOD_NO_ROW = 9,
+    LINDENBROOD_NO_SHEET = 10
+};
+
+enum {
+    LINDENBROOD_MERCURY = 1,
+    LINDENBROOD_VENUS = 2,
+    LINDENBROOD_EARTH = 3, /* the Earth-Moon barycentre */
+    LINDENBROOD_MARS = 4,
+    LINDENBROOD_JUPITER = 5,
+    LINDENBROOD_SATURN = 6,
+    LINDENBROOD_URANUS = 7,
+    LINDENBROOD_NEPTUNE = 8,
+    LINDENBROOD_PLUTO = 9
+};
+
+enum {
+    LINDENBROOD_HAE = 1,
+    LINDENBROOD_GEI = 2,
+    LINDENBROOD_HCI = 3,
+    LINDENBROOD_HEE = 4,
+    LINDENBROOD_HEEQ = 5
+};
+
+enum {
+    LINDENBROOD_FIRST_MINUTE = -105189840, /* JD 2378496.5 */
+    LINDENBROOD_LAST_MINUTE = 26298000,    /* JD 2469807.5 */
+    LINDENBROOD_PART_LIMIT = 500000000,    /* 50 au */
+    LINDENBROOD_E_LIMIT = 90000000,        /* 0.9 */
+    LINDENBROOD_ROW_BYTES = 38,
+    LINDENBROOD_MOST_ROWS = 400,
+    LINDENBROOD_MOST_STEP = 1000000        /* minutes */
+};
+
+/* An angle. */
+typedef struct {
+    int64_t status; /* 0, or the refusal */
+    int64_t angle;  /* millionths of a degree */
+} lindenbrood_angle_answer;
+
+/* The elements of an orbit, on the ecliptic and equinox of J2000. */
+typedef struct {
+    int64_t status;         /* 0, or the refusal */
+    int64_t a;              /* semi-major axis, 10^-8 au */
+    int64_t e;              /* eccentricity, 10^-8 */
+    int64_t inclination;    /* 10^-8 degree */
+    int64_t mean_longitude; /* 10^-8 degree, not brought to one turn */
+    int64_t perihelion;     /* longitude of perihelion, 10^-8 degree */
+    int64_t node;           /* longitude of the ascending node, 10^-8 degree */
+} lindenbrood_elements_answer;
+
+/* A place or a vector in counts. */
+typedef struct {
+    int64_t status; /* 0, or the refusal */
+    int64_t x;      /* 10^-7 au; of an RTN vector: R */
+    int64_t y;      /* 10^-7 au; of an RTN vector: T */
+    int64_t z;      /* 10^-7 au; of an RTN vector: N */
+} lindenbrood_vector_answer;
+
+/* A place in au. */
+typedef struct {
+    int64_t status; /* 0, or the refusal */
+    double x;       /* au */
+    double y;       /* au */
+    double z;       /* au */
+} lindenbrood_place_answer;
+
+/* What a sheet call did. */
+typedef struct {
+    int64_t status; /* 0, or the refusal */
+    size_t good;    /* how many rows were written with status 0 */
+} lindenbrood_sheet_answer;
+
+/* The fields of a row that was read. */
+typedef struct {
+    int64_t status;     /* of the reading: 0, or 9 */
+    int64_t row_status; /* of the row itself: 0 to 4 */
+    int64_t body;       /* 1 to 9; in a refused row 0 */
+    int64_t frame;      /* 1 to 5; in a refused row 0 */
+    int64_t minutes;    /* from JD 2451545.0; in a refused row 0 */
+    int64_t x;          /* 10^-7 au; in a refused row 0 */
+    int64_t y;          /* 10^-7 au; in a refused row 0 */
+    int64_t z;          /* 10^-7 au; in a refused row 0 */
+} lindenbrood_row_answer;
+
+/* ------------------------------------------------------------------------
+ * One row for the projector
+ * ------------------------------------------------------------------------
+ *
+ * A row has 38 bytes, numbers big-endian and in two's complement:
+ *
+ *   bytes    field
+ *    0 -  1  length, 36: the bytes that follow
+ *    2       version, 1
+ *    3       status, 0 to 4
+ *    4       body
+ *    5       frame
+ *    6 - 13  minutes from JD 2451545.0
+ *   14 - 21  x, 10^-7 au
+ *   22 - 29  y, 10^-7 au
+ *   30 - 37  z, 10^-7 au
+ *
+ * A refused row has its length, version and status, and 34 zero bytes.
+ */
+
+/*
+ * lindenbrood_row_julian, lindenbrood_row_minutes
+ *
+ * The place of a body on a date, written as one row into lent bytes.
+ *
+ * Given:
+ *   date    Julian date, or minutes from JD 2451545.0
+ *   body    1 to 9
+ *   frame   1 to 5
+ *   len     bytes lent, at least 38
+ *
+ * Lent:
+ *   row     the first 38 bytes are overwritten; bytes after them stay
+ *
+ * Returned: the status.
+ *   0           the row holds the place, with status 0
+ *   8           len is under 38: no byte is written
+ *   1, 2, 3, 4  a refused row with this status is written
+ *   The first that applies, in this order.
+ *
+ * Note: after any status but 8 nothing that the bytes held before is left in
+ * the first 38.  After 8 they still hold what they held: do not draw them.
+ */
+int64_t lindenbrood_row_julian(double date, int64_t body, int64_t frame,
+                               uint8_t *row, size_t len);
+int64_t lindenbrood_row_minutes(int64_t date, int64_t body, int64_t frame,
+                                uint8_t *row, size_t len);
+
+/*
+ * lindenbrood_write_row
+ *
+ * A row written from its fields into lent bytes.
+ *
+ * Given:
+ *   status     of the row, 0 to 4
+ *   body       1 to 9; 0 in a refused row
+ *   frame      1 to 5; 0 in a refused row
+ *   minutes    in the interval; 0 in a refused row
+ *   x, y, z    any numbers, 10^-7 au; 0 in a refused row
+ *   len        bytes lent, at least 38
+ *
+ * Lent:
+ *   row        the first 38 bytes are overwritten; bytes after them stay
+ *
+ * Returned: the status of the writing.
+ *   0   the row is written, a refused one too
+ *   8   len is under 38: no byte is written
+ *   9   the fields are none that lindenbrood_read_row would take: no byte is
+ *       written
+ *   8 comes before 9.
+ *
+ * Note: lindenbrood_read_row gives back exactly what was written.
+ */
+int64_t lindenbrood_write_row(int64_t status, int64_t body, int64_t frame,
+                              int64_t minutes, int64_t x, int64_t y, int64_t z,
+                              uint8_t *row, size_t len);
+
+/*
+ * lindenbrood_read_row
+ *
+ * The fields of the row that stands in the first 38 bytes.
+ *
+ * Given:
+ *   len     bytes lent
+ *
+ * Lent:
+ *   row     is only read; bytes after the first 38 are not looked at
+ *
+ * Returned: the status of the reading, and the fields.
+ *   0   the bytes are a row: length 36, version 1, and either status 0 with a
+ *       known body and frame and minutes in the interval (any x, y, z), or
+ *       status 1 to 4 with 34 zeros
+ *   9   the bytes are no row, or len is under 38: all fields are 0
+ *
+ * Note: status is 0 for a refused row too.  Only where both status and
+ * row_status are 0 is there a place to draw.
+ */
+lindenbrood_row_answer lindenbrood_read_row(const uint8_t *row, size_t len);
+
+/* ------------------------------------------------------------------------
+ * A sheet of rows
+ * ------------------------------------------------------------------------ */
+
+/*
+ * lindenbrood_sheet_julian, lindenbrood_sheet_minutes
+ *
+ * Rows for start, start + step, start + 2 step and so on, into lent bytes.
+ *
+ * Given:
+ *   start   Julian date, or minutes from JD 2451545.0
+ *   step    minutes, 1 to 1000000
+ *   count   rows, 0 to 400
+ *   body    1 to 9
+ *   frame   1 to 5
+ *   len     bytes lent, at least 38 * count
+ *
+ * Lent:
+ *   rows    the first 38 * count bytes are overwritten; bytes after them stay
+ *
+ * Returned: the status, and how many of the rows have status 0.
+ *   0    every row is written
+ *   10   step or count is out of range: no byte is written, good is 0
+ *   8    len is under 38 * count: no byte is written, good is 0
+ *   10 comes before 8.
+ *
+ * Notes:
+ *   Row k, from 0, is byte for byte the single row of its own date, so that a
+ *   sheet may enter or leave the interval: rows whose date, body or frame is
+ *   refused hold the refused row (status 1 to 4), and rows after them are
+ *   still worked out.  The sheet's own status is 0 all the same.
+ *   The sums are exact and never wrap.  With a start that is not finite every
+ *   row has status 1.
+ *   Count 0 writes nothing and is answered with 0 and 0.
+ */
+lindenbrood_sheet_answer lindenbrood_sheet_julian(double start, int64_t step,
+                                                  int64_t count, int64_t body,
+                                                  int64_t frame, uint8_t *rows,
+                                                  size_t len);
+lindenbrood_sheet_answer lindenbrood_sheet_minutes(int64_t start, int64_t step,
+                                                   int64_t count, int64_t body,
+                                                   int64_t frame, uint8_t *rows,
+                                                   size_t len);
+
+/* ------------------------------------------------------------------------
+ * Places
+ * ------------------------------------------------------------------------ */
+
+/*
+ * lindenbrood_place_julian, lindenbrood_place_minutes
+ *
+ * The place of a body on a date, in au.
+ *
+ * Given:
+ *   date    Julian date, or minutes from JD 2451545.0
+ *   body    1 to 9
+ *   frame   1 to 5
+ *
+ * Returned: the status, and x, y, z in au.
+ *   0            x, y, z are the counts below made doubles, each then divided
+ *                once by 10000000
+ *   1, 2, 3, 4   x, y, z are 0.0
+ *   The first that applies, in this order.
+ */
+lindenbrood_place_answer lindenbrood_place_julian(double date, int64_t body,
+                                                  int64_t frame);
+lindenbrood_place_answer lindenbrood_place_minutes(int64_t date, int64_t body,
+                                                   int64_t frame);
+
+/*
+ * lindenbrood_counts_julian, lindenbrood_counts_minutes
+ *
+ * The same place in counts of 10^-7 au.
+ *
+ * Given: as above.
+ *
+ * Returned: the status, and x, y, z in 10^-7 au.
+ *   0            the place
+ *   1, 2, 3, 4   x, y, z are 0
+ *   The first that applies, in this order.
+ */
+lindenbrood_vector_answer lindenbrood_counts_julian(double date, int64_t body,
+                                                    int64_t frame);
+lindenbrood_vector_answer lindenbrood_counts_minutes(int64_t date, int64_t body,
+                                                     int64_t frame);
+
+/* ------------------------------------------------------------------------
+ * Vectors turned
+ * ------------------------------------------------------------------------ */
+
+/*
+ * lindenbrood_turn_julian, lindenbrood_turn_minutes
+ *
+ * A vector of one frame, as it is in another on a date.
+ *
+ * Given:
+ *   date      Julian date, or minutes from JD 2451545.0; it is tested for
+ *             every pair of frames, though only HEE and HEEQ move with it
+ *   from, to  frames, 1 to 5
+ *   x, y, z   the vector in frame `from`, each part within +-500000000
+ *             (10^-7 au, or whatever unit the vector is counted in)
+ *
+ * Returned: the status, and the vector in frame `to`, in the unit given.
+ *   0            the vector; a frame to itself leaves it unchanged
+ *   1, 2, 4, 5   x, y, z are 0
+ *   The first that applies, in this order.
+ *
+ * Note: between two frames that are not HAE the vector goes by way of HAE.
+ * Each turn floors, so that there and back may differ by some units.  A part
+ * of the answer may be beyond 500000000 and is then refused on the way back.
+ */
+lindenbrood_vector_answer lindenbrood_turn_julian(double date, int64_t from,
+                                                  int64_t to, int64_t x,
+                                                  int64_t y, int64_t z);
+lindenbrood_vector_answer lindenbrood_turn_minutes(int64_t date, int64_t from,
+                                                   int64_t to, int64_t x,
+                                                   int64_t y, int64_t z);
+
+/*
+ * lindenbrood_to_rtn, lindenbrood_from_rtn
+ *
+ * An HAE vector as radial, tangential and normal parts at a spacecraft, and
+ * such parts as an HAE vector.  No date is needed.
+ *
+ * Given:
+ *   rx, ry, rz  HAE place of the spacecraft, 10^-7 au, each within +-500000000
+ *   x, y, z     the vector, each part within +-500000000: HAE for to_rtn;
+ *               R, T, N for from_rtn
+ *
+ * Returned: the status, and the vector: R, T, N from to_rtn; HAE from from_rtn.
+ *   0   the vector.  R points from the Sun to the spacecraft, T along the
+ *       Sun's axis S times R, and N is R times T
+ *   5   a part of the place or of the vector is out of range: zeros
+ *   6   the place gives no direction (see the table of status numbers): zeros
+ *   5 comes before 6.
+ */
+lindenbrood_vector_answer lindenbrood_to_rtn(int64_t rx, int64_t ry, int64_t rz,
+                                             int64_t x, int64_t y, int64_t z);
+lindenbrood_vector_answer lindenbrood_from_rtn(int64_t rx, int64_t ry, int64_t rz,
+                                               int64_t x, int64_t y, int64_t z);
+
+/* ------------------------------------------------------------------------
+ * Elements and anomalies
+ * ------------------------------------------------------------------------ */
+
+/*
+ * lindenbrood_elements_julian, lindenbrood_elements_minutes
+ *
+ * The six elements of a body on a date.
+ *
+ * Given:
+ *   date    Julian date, or minutes from JD 2451545.0
+ *   body    1 to 9
+ *
+ * Returned: the status, and the elements, each
+ * x0 + floor(rate * minutes / 52596000) in hundred-millionths.
+ *   0         the elements
+ *   1, 2, 3   all six are 0
+ *   The first that applies, in this order.
+ */
+lindenbrood_elements_answer lindenbrood_elements_julian(double date, int64_t body);
+lindenbrood_elements_answer lindenbrood_elements_minutes(int64_t date, int64_t body);
+
+/*
+ * lindenbrood_mean_anomaly_julian, lindenbrood_mean_anomaly_minutes
+ *
+ * The mean anomaly of a body on a date.
+ *
+ * Given: as above.
+ *
+ * Returned: the status, and the angle in millionths of a degree.
+ *   0         the mean anomaly, from -180000000 up to but without 180000000
+ *   1, 2, 3   0
+ *   The first that applies, in this order.
+ */
+lindenbrood_angle_answer lindenbrood_mean_anomaly_julian(double date, int64_t body);
+lindenbrood_angle_answer lindenbrood_mean_anomaly_minutes(int64_t date, int64_t body);
+
+/*
+ * lindenbrood_eccentric_anomaly
+ *
+ * Kepler's equation solved: the eccentric anomaly of a mean anomaly.
+ *
+ * Given:
+ *   e              eccentricity, 0 to 90000000 (10^-8)
+ *   mean_anomaly   any angle, millionths of a degree; it is first brought to
+ *                  one turn
+ *
+ * Returned: the status, and the angle in millionths of a degree.
+ *   0   the whole number from -180000000 to 180000000 that leaves the least
+ *       error |10^9 M - (10^9 E - e* sin E)|, where e* is
+ *       floor(e * 57295780 / 10^8); the smaller of two that tie.  Its error is
+ *       below 10^9, which is a millionth of a degree
+ *   7   e is out of range: 0
+ */
+lindenbrood_angle_answer lindenbrood_eccentric_anomaly(int64_t e, int64_t mean_anomaly);
+
+/*
+ * lindenbrood_sine, lindenbrood_cosine
+ *
+ * Given:
+ *   angle   any angle, millionths of a degree
+ *
+ * Returned: the sine or the cosine in units of 10^-9, from -1000000000 to
+ * 1000000000, by a straight line between the entries of a table for every
+ * tenth of a degree.  No angle is refused.
+ *
+ * Note: sin(180 degrees - t) = sin t and sin(-t) = -sin t hold exactly, and the
+ * cosine of t is exactly the sine of t + 90 degrees.
+ */
 int64_t lindenbrood_sine(int64_t angle);
 int64_t lindenbrood_cosine(int64_t angle);
-lindenbrood_angle_answer lindenbrood_eccentric_anomaly(int64_t e, int64_t mean_anomaly);
+
+#ifdef __cplusplus
+}
+#endif
+
 #endif

@@ -8,7 +8,11 @@ ghost use Rattle.kepler.specs.Answer.{solvedOf};
 ghost use Rattle.orbits.specs.Answer.{elementsAnswer, meanAnswer};
 ghost use Rattle.frames.specs.Rtn.{toRtn, fromRtn};
 ghost use Rattle.places.specs.Answer.{placeAnswer, turnAnswer, auAnswer};
+ghost use Rattle.rows.specs.Answer.{readOf, written, writtenStatus};
+ghost use Rattle.sheets.specs.Row.{rowWritten};
+ghost use Rattle.sheets.specs.Sheet.{sheetWritten};
 ghost use Rattle.lindenbrood.specs.Answer.{anomalyOf, meanOf, foundOf, elementsOf, countsOf, vectorOf, auOf};
+ghost use Rattle.lindenbrood.specs.Lent.{fieldsOf, readAnswer, sheetOf, rowOfFields, writtenNumber, sheetNumber};
 use angles::Angle;
 use angles::Element;
 use dates::Date;
@@ -19,6 +23,10 @@ use orbits::Elements;
 use orbits::ElementsAnswer;
 use orbits::MeanAnswer;
 use places::AuAnswer;
+use rows::ReadAnswer;
+use rows::Row;
+use rows::Written;
+use sheets::SheetAnswer;
 
 // A status number, and an angle in millionths of a degree, zero where the status is not.
 #[repr(C)]
@@ -55,6 +63,26 @@ pub struct CPlace {
     pub x: f64,
     pub y: f64,
     pub z: f64,
+}
+
+// A status number, and the fields of the row that was read, zeros where the status is not.
+#[repr(C)]
+pub struct CRow {
+    pub status: i64,
+    pub row_status: i64,
+    pub body: i64,
+    pub frame: i64,
+    pub minutes: i64,
+    pub x: i64,
+    pub y: i64,
+    pub z: i64,
+}
+
+// A status number, and how many rows of the sheet have status 0.
+#[repr(C)]
+pub struct CSheet {
+    pub status: i64,
+    pub good: usize,
 }
 
 fn anomaly_of(solved: Solved) -> CAngle
@@ -165,6 +193,57 @@ fn au_of(answer: AuAnswer) -> CPlace
             y: 0.0,
             z: 0.0,
         },
+    }
+}
+
+fn fields_of(row: Row) -> CRow
+    ensures { λ r. ⌜ r ≡ fieldsOf row ⌝ }
+{
+    CRow {
+        status: 0,
+        row_status: row.status,
+        body: row.body,
+        frame: row.frame,
+        minutes: row.minutes,
+        x: row.x,
+        y: row.y,
+        z: row.z,
+    }
+}
+
+fn read_of(answer: ReadAnswer) -> CRow
+    ensures { λ r. ⌜ r ≡ readAnswer answer ⌝ }
+{
+    match answer {
+        ReadAnswer::Found(row) => fields_of(row),
+        ReadAnswer::Refused(r) => CRow {
+            status: refusals::number(r),
+            row_status: 0,
+            body: 0,
+            frame: 0,
+            minutes: 0,
+            x: 0,
+            y: 0,
+            z: 0,
+        },
+    }
+}
+
+fn written_of(answer: Written) -> i64
+    ensures { λ r. ⌜ r ≡ writtenStatus answer ⌝ }
+{
+    match answer {
+        Written::Done => 0,
+        Written::Refused(r) => refusals::number(r),
+    }
+}
+
+fn sheet_of(answer: SheetAnswer) -> CSheet
+    ensures { λ r. ⌜ r ≡ sheetOf answer ⌝ }
+{
+    CSheet {
+        status: answer.status,
+        good: answer.good,
     }
 }
 
@@ -303,4 +382,84 @@ pub extern "C" fn lindenbrood_from_rtn(rx: i64, ry: i64, rz: i64, x: i64, y: i64
     ensures { λ r. ⌜ r ≡ vectorOf (fromRtn (rx ∷ ry ∷ rz ∷ []) (x ∷ y ∷ z ∷ [])) ⌝ }
 {
     vector_of(frames::from_rtn([rx, ry, rz], [x, y, z]))
+}
+
+// The row of a body in a frame on a Julian date, into bytes that are lent.
+#[no_mangle]
+pub extern "C" fn lindenbrood_row_julian(date: f64, body: i64, frame: i64, bytes: &mut [u8]) -> i64
+    ensures { λ r. ⌜ (r, now (bytes .exit)) ≡ rowWritten (Julian date) body frame (now (bytes .entry)) ⌝ }
+{
+    sheets::row(Date::Julian(date), body, frame, bytes)
+}
+
+// The row of a body in a frame on a date in minutes, into bytes that are lent.
+#[no_mangle]
+pub extern "C" fn lindenbrood_row_minutes(date: i64, body: i64, frame: i64, bytes: &mut [u8]) -> i64
+    ensures { λ r. ⌜ (r, now (bytes .exit)) ≡ rowWritten (Minutes date) body frame (now (bytes .entry)) ⌝ }
+{
+    sheets::row(Date::Minutes(date), body, frame, bytes)
+}
+
+// A row of these fields, into bytes that are lent.
+#[no_mangle]
+pub extern "C" fn lindenbrood_write_row(
+    status: i64,
+    body: i64,
+    frame: i64,
+    minutes: i64,
+    x: i64,
+    y: i64,
+    z: i64,
+    bytes: &mut [u8],
+) -> i64
+    ensures { λ r. ⌜ (r, now (bytes .exit)) ≡ writtenNumber (written (rowOfFields status body frame minutes x y z) (now (bytes .entry))) ⌝ }
+{
+    let row = Row {
+        status,
+        body,
+        frame,
+        minutes,
+        x,
+        y,
+        z,
+    };
+    written_of(rows::write_row(row, bytes))
+}
+
+// The row in bytes that are lent to be read.
+#[no_mangle]
+pub extern "C" fn lindenbrood_read_row(bytes: &[u8]) -> CRow
+    ensures { λ r. ⌜ r ≡ readAnswer (readOf (now (bytes .entry))) ⌝ }
+{
+    read_of(rows::read_row(bytes))
+}
+
+// The rows for a Julian date, that date and the step, and so on, into bytes that are lent.
+#[no_mangle]
+pub extern "C" fn lindenbrood_sheet_julian(
+    start: f64,
+    step: i64,
+    count: i64,
+    body: i64,
+    frame: i64,
+    bytes: &mut [u8],
+) -> CSheet
+    ensures { λ r. ⌜ (r, now (bytes .exit)) ≡ sheetNumber (sheetWritten (Julian start) step count body frame (now (bytes .entry))) ⌝ }
+{
+    sheet_of(sheets::sheet(Date::Julian(start), step, count, body, frame, bytes))
+}
+
+// The rows for a date in minutes, that date and the step, and so on, into bytes that are lent.
+#[no_mangle]
+pub extern "C" fn lindenbrood_sheet_minutes(
+    start: i64,
+    step: i64,
+    count: i64,
+    body: i64,
+    frame: i64,
+    bytes: &mut [u8],
+) -> CSheet
+    ensures { λ r. ⌜ (r, now (bytes .exit)) ≡ sheetNumber (sheetWritten (Minutes start) step count body frame (now (bytes .entry))) ⌝ }
+{
+    sheet_of(sheets::sheet(Date::Minutes(start), step, count, body, frame, bytes))
 }

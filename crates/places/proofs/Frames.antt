@@ -106,17 +106,23 @@ earth-enough f g m v hf hg = go (needsEarth (laterOf f g)) refl
 exact : (v : List ℤ) → PartsWithin 3000000000 v → CountsExact (placeOf v .x) (placeOf v .y) (placeOf v .z)
 exact v w = record { x-exact = w-more (w .part 0) tt; y-exact = w-more (w .part 1) tt; z-exact = w-more (w .part 2) tt }
 
-pub answer-exact : (date : Date) (body frame : ℤ) (p : Place) → placeAnswer date body frame ≡ Vector p → CountsExact (p .x) (p .y) (p .z)
-answer-exact date body frame p e = go (momentOf date) (λ m f. two-centuries date m f) e
-  where
-    by : (m : ℤ) → TwoCenturies m → (b c : Bool) → (T b → IsBody body) → placeIf b c body frame m ≡ Vector p → CountsExact (p .x) (p .y) (p .z)
-    by m t false c k f = let z : _≡_ {A = ℕ} 0 1 = cc in absurd (omega arith)
-    by m t true false k f = let z : _≡_ {A = ℕ} 0 1 = cc in absurd (omega arith)
-    by m t true true k f =
-        let v = turnedBetween (pos 1) frame (earthAt m) (haeAt body m) in
-        let g : placeOf (turnedBetween (pos 1) frame (earthAt m) (haeAt body m)) ≡ p = cc in
-        subst (λ (q : Place). CountsExact (q .x) (q .y) (q .z)) g (exact v (from-hae-within frame (earthAt m) (haeAt body m) (earth-within m t) (hae-within body m (k tt) t)))
+module _ (body frame : ℤ) (p : Place) where
+  -- on a minute
+  pub minute-exact : (m : ℤ) → TwoCenturies m → placeOn (Accepted m) body frame ≡ Vector p → CountsExact (p .x) (p .y) (p .z)
+  minute-exact m t e = by (isBody body) (isFrame frame) (body-of-test body) e
+    where
+      by : (b c : Bool) → (T b → IsBody body) → placeIf b c body frame m ≡ Vector p → CountsExact (p .x) (p .y) (p .z)
+      by false c k f = let z : _≡_ {A = ℕ} 0 1 = cc in absurd (omega arith)
+      by true false k f = let z : _≡_ {A = ℕ} 0 1 = cc in absurd (omega arith)
+      by true true k f =
+          let v = turnedBetween (pos 1) frame (earthAt m) (haeAt body m) in
+          let g : placeOf (turnedBetween (pos 1) frame (earthAt m) (haeAt body m)) ≡ p = cc in
+          subst (λ (q : Place). CountsExact (q .x) (q .y) (q .z)) g (exact v (from-hae-within frame (earthAt m) (haeAt body m) (earth-within m t) (hae-within body m (k tt) t)))
 
-    go : (o : Moment) → ((m : ℤ) → o ≡ Accepted m → TwoCenturies m) → placeOn o body frame ≡ Vector p → CountsExact (p .x) (p .y) (p .z)
-    go (Accepted m) k f = by m (k m refl) (isBody body) (isFrame frame) (body-of-test body) f
-    go (RefusedDate r) k f = let z : _≡_ {A = ℕ} 0 1 = cc in absurd (omega arith)
+  -- on a date
+  pub answer-exact : (date : Date) → placeAnswer date body frame ≡ Vector p → CountsExact (p .x) (p .y) (p .z)
+  answer-exact date e = go (momentOf date) (λ m f. two-centuries date m f) e
+    where
+      go : (o : Moment) → ((m : ℤ) → o ≡ Accepted m → TwoCenturies m) → placeOn o body frame ≡ Vector p → CountsExact (p .x) (p .y) (p .z)
+      go (Accepted m) k f = minute-exact m (k m refl) f
+      go (RefusedDate r) k f = let z : _≡_ {A = ℕ} 0 1 = cc in absurd (omega arith)

@@ -30,7 +30,7 @@ told : (c : tie.After-p) → placeAnswer (c .before .before .before .args .date)
 told c = sym (answered (c .before .before)) ∙ c .p .given .1
 
 counts : (c : tie.After-p) → CountsExact (c .p .given .0 .0 .x) (c .p .given .0 .0 .y) (c .p .given .0 .0 .z)
-counts c = let s = c .before .before .before in answer-exact (s .args .date) (s .args .body) (s .args .frame) (c .p .given .0 .0) (told c)
+counts c = let s = c .before .before .before in answer-exact (s .args .body) (s .args .frame) (c .p .given .0 .0) (s .args .date) (told c)
 
 in-au-requires : tie.Need-in-au-requires
 in-au-requires c κs =

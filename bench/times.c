@@ -1,0 +1,276 @@
+/* The library's calls beside what a user would write or take instead, in one run on the same inputs: the plain
+ * double-precision program of reference/double.c, and ERFA's eraPlan94 where WITH_PLAN94 is set.
+ *
+ * Each round times every call once, by the processor's time; the least of the rounds is printed, so that what else the
+ * machine does meanwhile favours neither side. */
+#define _POSIX_C_SOURCE 199309L /* clock_gettime */
+#include <math.h>
+#include <stdint.h>
+#include <stdio.h>
+#include <time.h>
+
+#include "double.h"
+#include "lindenbrood.h"
+
+enum {
+    CALLS = 8000, /* in a round: one to four milliseconds, so that some rounds run without a break */
+    ROUNDS = 150,
+    SHEETS = CALLS / LINDENBROOD_MOST_ROWS,
+    DAY = 1440
+};
+#define RADIANS 0.017453292519943295
+#define EPOCH 2451545.0
+
+/* The inputs. Bodies are 1 to 8, since eraPlan94 has no Pluto. */
+static int64_t minutes[CALLS], bodies[CALLS], angles[CALLS];
+static double julian_dates[CALLS];
+
+static uint8_t rows[LINDENBROOD_MOST_ROWS * LINDENBROOD_ROW_BYTES];
+static volatile double sink; /* what is computed is used */
+
+static uint64_t chance(void)
+{
+    static uint64_t state = 88172645463325252u;
+
+    state ^= state << 13;
+    state ^= state >> 7;
+    state ^= state << 17;
+    return state;
+}
+
+static int64_t chance_between(int64_t first, int64_t last)
+{
+    return first + (int64_t)(chance() % (uint64_t)(last - first + 1));
+}
+
+static void make_inputs(void)
+{
+    const int64_t span = (int64_t)LINDENBROOD_MOST_ROWS * DAY; /* of a sheet: all rows are good */
+
+    for (int i = 0; i < CALLS; i++) {
+        minutes[i] = chance_between(LINDENBROOD_FIRST_MINUTE, LINDENBROOD_LAST_MINUTE - span);
+        julian_dates[i] = EPOCH + (double)minutes[i] / DAY;
+        bodies[i] = chance_between(1, 8);
+        angles[i] = chance_between(-180000000, 179999999);
+    }
+}
+
+/* A batch makes all calls of a round with one parameter and answers a sum of what came out. */
+typedef double (*batch)(int64_t parameter);
+
+static double our_places(int64_t frame)
+{
+    double sum = 0;
+
+    for (int i = 0; i < CALLS; i++)
+        sum += lindenbrood_place_minutes(minutes[i], bodies[i], frame).x;
+    return sum;
+}
+
+static double plain_places(int64_t frame)
+{
+    double sum = 0, place[3];
+
+    for (int i = 0; i < CALLS; i++) {
+        if (frame == LINDENBROOD_HAE)
+            double_place((double)minutes[i], (int)bodies[i], place);
+        else
+            double_heeq((double)minutes[i], (int)bodies[i], place);
+        sum += place[0];
+    }
+    return sum;
+}
+
+#ifdef WITH_PLAN94
+int plan94_place(double minutes, int body, double out[3]);
+
+static double plan94_places(int64_t frame)
+{
+    double sum = 0, place[3];
+
+    (void)frame;
+    for (int i = 0; i < CALLS; i++) {
+        plan94_place((double)minutes[i], (int)bodies[i], place);
+        sum += place[0];
+    }
+    return sum;
+}
+#else
+#define plan94_places NULL
+#endif
+
+static double our_solves(int64_t e)
+{
+    int64_t sum = 0;
+
+    for (int i = 0; i < CALLS; i++)
+        sum += lindenbrood_eccentric_anomaly(e, angles[i]).angle;
+    return (double)sum;
+}
+
+static double plain_solves(int64_t e)
+{
+    double sum = 0;
+
+    for (int i = 0; i < CALLS; i++)
+        sum += double_kepler((double)e / 1e8, (double)angles[i] / 1e6);
+    return sum;
+}
+
+static double our_sines(int64_t unused)
+{
+    int64_t sum = 0;
+
+    (void)unused;
+    for (int i = 0; i < CALLS; i++)
+        sum += lindenbrood_sine(angles[i]);
+    return (double)sum;
+}
+
+static double plain_sines(int64_t unused)
+{
+    double sum = 0;
+
+    (void)unused;
+    for (int i = 0; i < CALLS; i++)
+        sum += sin((double)angles[i] / 1e6 * RADIANS);
+    return sum;
+}
+
+static double our_rows(int64_t frame)
+{
+    double sum = 0;
+
+    for (int i = 0; i < CALLS; i++) {
+        lindenbrood_row_julian(julian_dates[i], bodies[i], frame, rows, LINDENBROOD_ROW_BYTES);
+        sum += rows[21];
+    }
+    return sum;
+}
+
+static void put_eight(int64_t number, uint8_t *bytes)
+{
+    for (int i = 0; i < 8; i++)
+        bytes[i] = (uint8_t)((uint64_t)number >> (56 - 8 * i));
+}
+
+/* The same bytes, as a plain C host would fill them: no test of anything. */
+static void plain_row(double minute, int64_t body, uint8_t *row)
+{
+    double place[3];
+
+    double_place(minute, (int)body, place);
+    row[0] = 0;
+    row[1] = 36;
+    row[2] = 1;
+    row[3] = 0;
+    row[4] = (uint8_t)body;
+    row[5] = LINDENBROOD_HAE;
+    put_eight((int64_t)floor(minute + 0.5), row + 6);
+    for (int i = 0; i < 3; i++)
+        put_eight((int64_t)floor(place[i] * 1e7), row + 14 + 8 * i);
+}
+
+static double plain_rows(int64_t frame)
+{
+    double sum = 0;
+
+    (void)frame;
+    for (int i = 0; i < CALLS; i++) {
+        plain_row((julian_dates[i] - EPOCH) * DAY, bodies[i], rows);
+        sum += rows[21];
+    }
+    return sum;
+}
+
+static double our_sheets(int64_t frame)
+{
+    double good = 0;
+
+    for (int i = 0; i < SHEETS; i++)
+        good += (double)lindenbrood_sheet_minutes(minutes[i], DAY, LINDENBROOD_MOST_ROWS, bodies[i], frame, rows,
+                                                  sizeof rows).good;
+    return good;
+}
+
+static double plain_sheets(int64_t frame)
+{
+    double sum = 0;
+
+    (void)frame;
+    for (int i = 0; i < SHEETS; i++) {
+        for (int k = 0; k < LINDENBROOD_MOST_ROWS; k++)
+            plain_row((double)(minutes[i] + k * DAY), bodies[i], rows + k * LINDENBROOD_ROW_BYTES);
+        sum += rows[21];
+    }
+    return sum;
+}
+
+typedef struct {
+    const char *what;
+    int64_t parameter; /* frame, or eccentricity in 10^-8 */
+    batch batches[3];  /* ours, the plain program's, eraPlan94's; NULL where there is none */
+} line;
+
+static const line lines[] = {
+    {"place in HAE", LINDENBROOD_HAE, {our_places, plain_places, plan94_places}},
+    {"place in HEEQ", LINDENBROOD_HEEQ, {our_places, plain_places, NULL}},
+    {"solve, e 0.0068", 680000, {our_solves, plain_solves, NULL}},
+    {"solve, e 0.0167", 1670000, {our_solves, plain_solves, NULL}},
+    {"solve, e 0.0934", 9340000, {our_solves, plain_solves, NULL}},
+    {"solve, e 0.2056", 20560000, {our_solves, plain_solves, NULL}},
+    {"solve, e 0.2488", 24880000, {our_solves, plain_solves, NULL}},
+    {"solve, e 0.9", 90000000, {our_solves, plain_solves, NULL}},
+    {"sine", 0, {our_sines, plain_sines, NULL}},
+    {"row in HAE, Julian date", LINDENBROOD_HAE, {our_rows, plain_rows, NULL}},
+    {"row of a 400-row sheet", LINDENBROOD_HAE, {our_sheets, plain_sheets, NULL}},
+};
+enum { LINES = sizeof lines / sizeof *lines };
+
+static double now(void)
+{
+    struct timespec t;
+
+    clock_gettime(CLOCK_PROCESS_CPUTIME_ID, &t);
+    return (double)t.tv_sec * 1e9 + (double)t.tv_nsec;
+}
+
+/* Nanoseconds for one call. */
+static double time_of(batch made, int64_t parameter)
+{
+    double start = now();
+
+    sink = made(parameter);
+    return (now() - start) / CALLS;
+}
+
+static void print_line(const char *what, const double least[3])
+{
+    printf("%-26s %8.1f", what, least[0]);
+    for (int side = 1; side < 3; side++)
+        if (least[side] < INFINITY)
+            printf(" %11.1f %8.2f", least[side], least[0] / least[side]);
+        else
+            printf(" %11s %8s", "", "");
+    printf("\n");
+}
+
+int main(void)
+{
+    static double least[LINES][3];
+
+    make_inputs();
+    for (int i = 0; i < LINES; i++)
+        for (int side = 0; side < 3; side++)
+            least[i][side] = INFINITY;
+    for (int round = 0; round < ROUNDS; round++)
+        for (int i = 0; i < LINES; i++)
+            for (int side = 0; side < 3; side++)
+                if (lines[i].batches[side] != NULL)
+                    least[i][side] = fmin(least[i][side], time_of(lines[i].batches[side], lines[i].parameter));
+
+    printf("%-26s %8s %11s %8s %11s %8s\n", "nanoseconds", "ours", "plain C", "ratio", "eraPlan94", "ratio");
+    for (int i = 0; i < LINES; i++)
+        print_line(lines[i].what, least[i]);
+    return 0;
+}

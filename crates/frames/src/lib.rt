@@ -1,0 +1,328 @@
+// Sun-centred frames: rotations of three rows, vectors turned between frames, and RTN at a spacecraft's place.
+// In a rotation 10^9 stands for one. Lengths are counts of 10^-7 au. The Earth's place in HAE is the caller's.
+ghost use mathlib.Core.Path.{_≡_};
+ghost use Prim.Native.Nat.{_≤_};
+ghost use lib.IntN.{pos, natAbs, _*ℤ_};
+ghost use lib.Signed.{_<ℤ_};
+ghost use Rattle.integers.specs.Range.{Within};
+ghost use Rattle.integers.specs.Floor.{floorDiv};
+ghost use Rattle.frames.specs.Range.{PartsWithin, DotFits, TurnFits, KnownFrame, HasRows};
+ghost use Rattle.frames.specs.Vector.{dotOf, applied, columnOf, transposed, wayOf, squareOf, lengthOf, overLength, unitOf, crossPart, crossOf};
+ghost use Rattle.frames.specs.Frame.{geiRows, hciRows, solarAxis, onEcliptic, heeRows, heeqRows, rotationOf, haeTurned, turnedBetween};
+ghost use Rattle.frames.specs.Answer.{partInReach, inReach, placeOf};
+ghost use Rattle.frames.specs.Rtn.{rtnOf, rtnTurned, toRtn, fromRtn};
+use refusals::Refusal;
+
+// Three coordinates. A struct, since an enum holds no array.
+pub struct Place {
+    pub x: i64,
+    pub y: i64,
+    pub z: i64,
+}
+
+// A turned vector, or refusal 5 or 6.
+pub enum Turned {
+    Vector(Place),
+    Refused(Refusal),
+}
+
+// GEI and HCI depend on no date, so their numbers are constants. Each is proved to be the sine or cosine, or the product of
+// two, that document 01 asks for.
+const GEI: [[i64; 3]; 3] = [
+    [1_000_000_000, 0, 0],
+    [0, 917_481_729, -397_777_009],
+    [0, 397_777_009, 917_481_729],
+];
+
+const HCI: [[i64; 3]; 3] = [
+    [245_984_036, 969_273_502, 0],
+    [-961_523_745, 244_017_288, 126_198_921],
+    [122_321_270, -31_042_919, 992_004_572],
+];
+
+// The sum of the products of two triples.
+pub fn dot(a: [i64; 3], v: [i64; 3]) -> i64
+    requires { ⌜ DotFits a v ⌝ }
+    ensures { λ r. ⌜ r ≡ dotOf a v ⌝ }
+{
+    a[0] * v[0] + a[1] * v[1] + a[2] * v[2]
+}
+
+// A vector turned by the rows of m.
+pub fn applied(m: [[i64; 3]; 3], v: [i64; 3]) -> [i64; 3]
+    requires { ⌜ TurnFits m v ⌝ }
+    ensures { λ r. ⌜ r ≡ applied m v ⌝ }
+{
+    [
+        integers::end_turn(dot(m[0], v)),
+        integers::end_turn(dot(m[1], v)),
+        integers::end_turn(dot(m[2], v)),
+    ]
+}
+
+// The index is a parameter, so that the exchange is one rule for all columns.
+fn column(m: [[i64; 3]; 3], j: usize) -> [i64; 3]
+    requires { ⌜ j ≤ 2 ⌝ }
+    ensures { λ r. ⌜ r ≡ columnOf m j ⌝ }
+{
+    [m[0][j], m[1][j], m[2][j]]
+}
+
+// Rows and columns exchanged.
+pub fn transposed(m: [[i64; 3]; 3]) -> [[i64; 3]; 3]
+    ensures { λ r. ⌜ r ≡ transposed m ⌝ }
+{
+    [column(m, 0), column(m, 1), column(m, 2)]
+}
+
+// The rows there, or their exchange back.
+fn way(m: [[i64; 3]; 3], back: bool) -> [[i64; 3]; 3]
+    ensures { λ r. ⌜ r ≡ wayOf back m ⌝ }
+{
+    if back {
+        return transposed(m);
+    }
+    m
+}
+
+// The square of a part. Three of them add up to less than 2^64, though not to less than 2^63.
+fn square(z: i64) -> u64
+    requires { ⌜ Within 2000000000 z ⌝ }
+    ensures { λ r. ⌜ r ≡ squareOf z ⌝ }
+{
+    (z * z) as u64
+}
+
+// L, the whole root of the sum of squares.
+pub fn length(v: [i64; 3]) -> u64
+    requires { ⌜ PartsWithin 2000000000 v ⌝ }
+    ensures { λ r. ⌜ r ≡ lengthOf v ⌝ }
+    ensures { λ r. ⌜ r ≤ 4294967295 ⌝ }
+{
+    integers::root(square(v[0]) + square(v[1]) + square(v[2]))
+}
+
+// One part over the length.
+fn part_over(z: i64, l: i64) -> i64
+    requires { ⌜ Within 2000000000 z ⌝ }
+    requires { ⌜ pos 0 <ℤ l ⌝ }
+    ensures { λ r. ⌜ r ≡ floorDiv (z *ℤ pos 1000000000) (natAbs l) ⌝ }
+{
+    integers::floor_div(z * 1_000_000_000, l)
+}
+
+// A vector over a length, 10^9 standing for one; zeros where the length is 0.
+fn over_length(l: u64, v: [i64; 3]) -> [i64; 3]
+    requires { ⌜ l ≤ 4294967295 ⌝ }
+    requires { ⌜ PartsWithin 2000000000 v ⌝ }
+    ensures { λ r. ⌜ r ≡ overLength l v ⌝ }
+{
+    if l == 0 {
+        return [0, 0, 0];
+    }
+    let d = l as i64;
+    [part_over(v[0], d), part_over(v[1], d), part_over(v[2], d)]
+}
+
+// The unit vector of v.
+pub fn unit(v: [i64; 3]) -> [i64; 3]
+    requires { ⌜ PartsWithin 2000000000 v ⌝ }
+    ensures { λ r. ⌜ r ≡ unitOf v ⌝ }
+{
+    over_length(length(v), v)
+}
+
+// The part of a cross product that goes by parts i and j.
+fn cross_part(a: [i64; 3], b: [i64; 3], i: usize, j: usize) -> i64
+    requires { ⌜ PartsWithin 1000000000 a ⌝ }
+    requires { ⌜ PartsWithin 1000000000 b ⌝ }
+    requires { ⌜ (i ≤ 2) × (j ≤ 2) ⌝ }
+    ensures { λ r. ⌜ r ≡ crossPart a b i j ⌝ }
+{
+    integers::floor_div(a[i] * b[j] - a[j] * b[i], 1_000_000_000)
+}
+
+// The cross product of two vectors of which 10^9 stands for one.
+pub fn cross(a: [i64; 3], b: [i64; 3]) -> [i64; 3]
+    requires { ⌜ PartsWithin 1000000000 a ⌝ }
+    requires { ⌜ PartsWithin 1000000000 b ⌝ }
+    ensures { λ r. ⌜ r ≡ crossOf a b ⌝ }
+{
+    [
+        cross_part(a, b, 1, 2),
+        cross_part(a, b, 2, 0),
+        cross_part(a, b, 0, 1),
+    ]
+}
+
+// The rows that turn HAE into GEI of J2000.
+pub fn gei() -> [[i64; 3]; 3]
+    ensures { λ r. ⌜ r ≡ geiRows ⌝ }
+{
+    GEI
+}
+
+// The rows that turn HAE into HCI.
+pub fn hci() -> [[i64; 3]; 3]
+    ensures { λ r. ⌜ r ≡ hciRows ⌝ }
+{
+    HCI
+}
+
+// The solar axis, HCI's last row.
+pub fn solar_axis() -> [i64; 3]
+    ensures { λ r. ⌜ r ≡ solarAxis ⌝ }
+{
+    HCI[2]
+}
+
+// The Earth's place without its z: HEE stands on the J2000 ecliptic.
+fn on_ecliptic(earth: [i64; 3]) -> [i64; 3]
+    ensures { λ r. ⌜ r ≡ onEcliptic earth ⌝ }
+{
+    [earth[0], earth[1], 0]
+}
+
+// The rows that turn HAE into HEE.
+pub fn hee(earth: [i64; 3]) -> [[i64; 3]; 3]
+    requires { ⌜ PartsWithin 1000000000 earth ⌝ }
+    ensures { λ r. ⌜ r ≡ heeRows earth ⌝ }
+{
+    let x = unit(on_ecliptic(earth));
+    [x, [0 - x[1], x[0], 0], [0, 0, 1_000_000_000]]
+}
+
+// The rows that turn HAE into HEEQ.
+pub fn heeq(earth: [i64; 3]) -> [[i64; 3]; 3]
+    requires { ⌜ PartsWithin 1000000000 earth ⌝ }
+    ensures { λ r. ⌜ r ≡ heeqRows earth ⌝ }
+{
+    let axis = solar_axis();
+    let y = unit(cross(axis, unit(earth)));
+    [cross(y, axis), y, axis]
+}
+
+// The rows that turn HAE into frame 2, 3, 4 or 5.
+pub fn rotation(frame: i64, earth: [i64; 3]) -> [[i64; 3]; 3]
+    requires { ⌜ HasRows frame ⌝ }
+    requires { ⌜ PartsWithin 1000000000 earth ⌝ }
+    ensures { λ r. ⌜ r ≡ rotationOf frame earth ⌝ }
+{
+    if frame == 2 {
+        return gei();
+    }
+    if frame == 3 {
+        return hci();
+    }
+    if frame == 4 {
+        return hee(earth);
+    }
+    heeq(earth)
+}
+
+// A vector of HAE in a frame, or back. Its parts may be those that a turn to HAE gives.
+fn hae_turned(back: bool, frame: i64, earth: [i64; 3], v: [i64; 3]) -> [i64; 3]
+    requires { ⌜ KnownFrame frame ⌝ }
+    requires { ⌜ PartsWithin 1000000000 earth ⌝ }
+    requires { ⌜ PartsWithin 3000000000 v ⌝ }
+    ensures { λ r. ⌜ r ≡ haeTurned back frame earth v ⌝ }
+{
+    if frame == 1 {
+        return v;
+    }
+    applied(way(rotation(frame, earth), back), v)
+}
+
+// A vector of one frame in another, by way of HAE. A frame to itself leaves it unchanged.
+pub fn turned_between(from: i64, to: i64, earth: [i64; 3], v: [i64; 3]) -> [i64; 3]
+    requires { ⌜ KnownFrame from ⌝ }
+    requires { ⌜ KnownFrame to ⌝ }
+    requires { ⌜ PartsWithin 1000000000 earth ⌝ }
+    requires { ⌜ PartsWithin 1000000000 v ⌝ }
+    ensures { λ r. ⌜ r ≡ turnedBetween from to earth v ⌝ }
+{
+    if from == to {
+        return v;
+    }
+    hae_turned(false, to, earth, hae_turned(true, from, earth, v))
+}
+
+// Whether a part of a given vector or place lies within 500,000,000 either way.
+fn part_in_reach(z: i64) -> bool
+    ensures { λ r. ⌜ r ≡ partInReach z ⌝ }
+{
+    if z < -500_000_000 {
+        return false;
+    }
+    z <= 500_000_000
+}
+
+// Whether all three parts do.
+pub fn in_reach(v: [i64; 3]) -> bool
+    ensures { λ r. ⌜ r ≡ inReach v ⌝ }
+{
+    if !part_in_reach(v[0]) {
+        return false;
+    }
+    if !part_in_reach(v[1]) {
+        return false;
+    }
+    part_in_reach(v[2])
+}
+
+fn place_of(v: [i64; 3]) -> Place
+    ensures { λ r. ⌜ r ≡ placeOf v ⌝ }
+{
+    Place {
+        x: v[0],
+        y: v[1],
+        z: v[2],
+    }
+}
+
+// The rows R, T, N.
+fn rtn(radial: [i64; 3], tangential: [i64; 3]) -> [[i64; 3]; 3]
+    requires { ⌜ PartsWithin 1000000000 radial ⌝ }
+    requires { ⌜ PartsWithin 1000000000 tangential ⌝ }
+    ensures { λ r. ⌜ r ≡ rtnOf radial tangential ⌝ }
+{
+    [radial, tangential, cross(radial, tangential)]
+}
+
+// A vector there or back at the place r. Refusal 5 comes before 6, so that no length is taken of a place too far.
+fn rtn_turned(back: bool, r: [i64; 3], v: [i64; 3]) -> Turned
+    ensures { λ t. ⌜ t ≡ rtnTurned back r v ⌝ }
+{
+    if !in_reach(v) {
+        return Turned::Refused(Refusal::TooFar);
+    }
+    if !in_reach(r) {
+        return Turned::Refused(Refusal::TooFar);
+    }
+    let l = length(r);
+    if l < 100_000 {
+        return Turned::Refused(Refusal::NoDirection);
+    }
+    let radial = over_length(l, r);
+    let across = cross(solar_axis(), radial);
+    let k = length(across);
+    if k < 1_000_000 {
+        return Turned::Refused(Refusal::NoDirection);
+    }
+    let rows = rtn(radial, over_length(k, across));
+    Turned::Vector(place_of(applied(way(rows, back), v)))
+}
+
+// A vector of HAE as R, T, N parts at a spacecraft's place r in HAE.
+pub fn to_rtn(r: [i64; 3], v: [i64; 3]) -> Turned
+    ensures { λ t. ⌜ t ≡ toRtn r v ⌝ }
+{
+    rtn_turned(false, r, v)
+}
+
+// R, T, N parts at r as a vector of HAE.
+pub fn from_rtn(r: [i64; 3], v: [i64; 3]) -> Turned
+    ensures { λ t. ⌜ t ≡ fromRtn r v ⌝ }
+{
+    rtn_turned(true, r, v)
+}
