@@ -46,8 +46,7 @@ static void accepted(const sheet *s, lent_kind kind, size_t more)
     size_t room = room_of(s->count);
     lent rows = lend(kind, room + more);
     lindenbrood_sheet_answer answer = ask(s, rows.bytes, rows.len);
-    int64_t wrong = 0;
-    size_t good = 0;
+    int64_t good = 0, wrong = 0;
 
     for (int64_t k = 0; k < s->count; k++) {
         uint8_t single[ROW];
@@ -61,8 +60,8 @@ static void accepted(const sheet *s, lent_kind kind, size_t more)
           s->start, s->step, s->count);
     CHECK(wrong == 0, "%" PRId64 " rows differ: start %" PRId64 " step %" PRId64
           " count %" PRId64, wrong, s->start, s->step, s->count);
-    CHECK(answer.good == good, "start %" PRId64 " step %" PRId64 ": %zu"
-          " good rows, not %zu", s->start, s->step, good, answer.good);
+    CHECK(answer.good == good, "start %" PRId64 " step %" PRId64 ": %" PRId64
+          " good rows, not %" PRId64, s->start, s->step, good, answer.good);
     CHECK(untouched(&rows, room), "bytes after %" PRId64 " rows", s->count);
     give_back(&rows);
 }

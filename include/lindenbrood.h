@@ -179,7 +179,7 @@ typedef struct {
 /* What a sheet call did. */
 typedef struct {
     int64_t status; /* 0, or the refusal */
-    size_t good;    /* how many rows were written with status 0 */
+    int64_t good;   /* how many rows were written with status 0 */
 } lindenbrood_sheet_answer;
 
 /* The fields of a row that was read. */
