@@ -1,0 +1,7 @@
+-- What the contracts of `listing_lines` cite: a line's request, a number's decimal digits, the printed line, bytes put at a place, and the listing.
+pub mod Request
+pub mod Decimal
+pub mod Line
+pub mod Put
+pub mod Stream
+pub mod Examples
