@@ -97,20 +97,12 @@ fn folded(t: u64) -> u64
     if t < 90_000_000 { t } else { 180_000_000 - t }
 }
 
-// The size of any count: -1 - t is taken before the cast, since 0 - t overflows at the least number.
-fn size(t: i64) -> u64
-    ensures { λ r. ⌜ r ≡ natAbs t ⌝ }
-{
-    if t < 0 { (-1 - t) as u64 + 1 } else { t as u64 }
-}
-
 // The size s with the sign of t.
 fn with_sign_of(t: i64, s: u64) -> i64
     requires { ⌜ s ≤ 1000000000 ⌝ }
     ensures { λ r. ⌜ r ≡ withSignOf t s ⌝ }
 {
-    let h = s as i64;
-    if t < 0 { 0 - h } else { h }
+    integers::with_sign(t < 0, s)
 }
 
 // Entry n of the lent table.
@@ -166,7 +158,7 @@ fn turn_sine_by(table: &[u32; 901], t: i64) -> i64
     requires { ⌜ Within 180000000 t ⌝ }
     ensures { λ r. ⌜ r ≡ withSignOf t (halfSine (natAbs t)) ⌝ }
 {
-    with_sign_of(t, half_sine_by(table, size(t)))
+    with_sign_of(t, half_sine_by(table, integers::size(t)))
 }
 
 // The sine of any angle over a lent table, 10^9 standing for one.

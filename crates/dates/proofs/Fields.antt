@@ -16,7 +16,8 @@ use lib.Ieee.Exact.{HasValue, odd-sign}
 use lib.Ieee.Fits.{down-pos}
 use lib.Pow.{pow-add, pow-pos, pow-mono, field}
 use Rattle.integers.proofs.Difference.{d-minus, d-abs}
-use Rattle.dates.specs.Minute.{Minute, notFinite, minute, signed, rounded, minuteOfJulian}
+use Rattle.integers.specs.Sign.{signed}
+use Rattle.dates.specs.Minute.{Minute, notFinite, minute, rounded, minuteOfJulian}
 use Rattle.dates.proofs.Rounding.{rounded-same, rounded-small, rounded-large, minute-is}
 
 -- the minute that is z minutes from JD 0.0

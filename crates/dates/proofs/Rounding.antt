@@ -9,7 +9,8 @@ use lib.IntN.{ℤ, pos, negℤ, natAbs, _+ℤ_, _-ℤ_, _*ℤ_, +ℤ-comm}
 use Rattle.integers.specs.Floor.{floorDiv}
 use Rattle.integers.proofs.Difference.{up, dn, d-add, d-minus, d-mul, d-abs, eq-d, ext, up-neg, dn-neg}
 use Rattle.integers.proofs.Floor.{floor-low, floor-high, floor-only, floor-shift}
-use Rattle.dates.specs.Minute.{signed, rounded, julianMinute}
+use Rattle.integers.specs.Sign.{signed}
+use Rattle.dates.specs.Minute.{rounded, julianMinute}
 
 -- ---- a floor by any divisor above 0: a whole number goes out of it, what is under it is 0, and it goes by the fraction's value
 floor-out : (c x : ℤ) (m : ℕ) → 0 < m → floorDiv (c *ℤ pos m +ℤ x) m ≡ c +ℤ floorDiv x m

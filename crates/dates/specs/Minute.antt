@@ -5,6 +5,7 @@ use Prim.Native.Nat.{ℕ, _*_}
 use lib.IntN.{ℤ, pos, negℤ, _+ℤ_, _-ℤ_, _*ℤ_}
 use lib.Ieee.{Float, nan, inf, fin, up, down}
 use Rattle.integers.specs.Floor.{floorDiv}
+use Rattle.integers.specs.Sign.{signed}
 use Rattle.dates.specs.declared.Date.{Date}
 use Rattle.dates.specs.declared.Date.the-variants.{Julian, Minutes}
 
@@ -12,11 +13,6 @@ use Rattle.dates.specs.declared.Date.the-variants.{Julian, Minutes}
 pub data Minute : Type 0 where
   notFinite : Minute
   minute : ℤ → Minute
-
--- n, negative where s is true
-abbrev pub signed : Bool → ℕ → ℤ
-signed false n = pos n
-signed true n = negℤ (pos n)
 
 -- floor(a / k + 1/2)
 abbrev pub rounded : ℤ → ℕ → ℤ

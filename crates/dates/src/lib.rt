@@ -5,7 +5,7 @@ ghost use Prim.Native.Nat.{_^_, _≤_};
 ghost use lib.IntN.{_+ℤ_};
 ghost use lib.Ieee.{binary64, ofFields};
 ghost use Rattle.integers.specs.Range.{Within};
-ghost use Rattle.dates.specs.Minute.{minute, signed, rounded, minuteOfJulian};
+ghost use Rattle.dates.specs.Minute.{minute, rounded, minuteOfJulian};
 ghost use Rattle.dates.specs.Reach.{InReach, NearFields, RoundFits};
 ghost use Rattle.dates.specs.Moment.{tested, momentWithin, momentAfter, momentOf};
 use refusals::Refusal;
@@ -30,15 +30,6 @@ pub const LAST_MINUTE: i64 = 26_298_000;
 // JD 2451545.0 in minutes: 2,451,545 days of 1,440.
 const EPOCH: i64 = 3_530_224_800;
 
-// A number of at most 45 times 2^53, with a sign.
-fn with_sign(negative: bool, size: u64) -> i64
-    requires { ⌜ size ≤ 405323966463344640 ⌝ }
-    ensures { λ r. ⌜ r ≡ signed negative size ⌝ }
-{
-    let n = size as i64;
-    if negative { 0 - n } else { n }
-}
-
 // floor(a / 2^v + 1/2): the machine's shift of a signed number is a floor.
 fn rounded(a: i64, v: u64) -> i64
     requires { ⌜ RoundFits a v ⌝ }
@@ -58,7 +49,7 @@ fn minute_of_fields(negative: bool, x: u64, t: u64) -> i64
         return 0 - EPOCH;
     }
     let parts = 45 * (0x10_0000_0000_0000 + t);
-    rounded(with_sign(negative, parts), 1070 - x) - EPOCH
+    rounded(integers::with_sign(negative, parts), 1070 - x) - EPOCH
 }
 
 // The moment of whole minutes: the sum is taken where the test has shown that it fits.

@@ -1,5 +1,5 @@
--- The tests by which the definitions choose: whether two frames have one number, and whether a part lies within ±500,000,000.
--- By the cases of ℤ; the machine compares the bits of two numbers that fit, which are the same where the numbers are.
+-- The tests by which the definitions choose: which frames have rows, and whether a part lies within ±500,000,000.
+-- By the cases of ℤ.
 use mathlib.Core.Path.{_≡_, refl, subst, ap, sym}
 use mathlib.Core.Bool.{Bool, true, false, not, _&&_}
 use mathlib.Core.List.{List}
@@ -14,31 +14,9 @@ use mir.Val.{SFits, ofZ}
 use borrow.Author.Tests.{le-leb, lt-leb, leb-true, eq-eqb, ne-eqb}
 use Rattle.integers.specs.Range.{Within}
 use Rattle.integers.proofs.Difference.{zarith, d-abs}
-use Rattle.integers.proofs.Cast.{same-bits}
 use Rattle.frames.specs.Vector.{at}
 use Rattle.frames.specs.Range.{PartsWithin, KnownFrame, HasRows}
-use Rattle.frames.specs.Frame.{same}
 use Rattle.frames.specs.Answer.{partInReach, inReach}
-
--- ---- the same frame
-pub same-yes : (a b : ℤ) → a ≡ b → same a b ≡ true
-same-yes (pos a) (pos b) e = eq-eqb a b (ap natAbs e)
-same-yes (pos a) (negsuc b) e = absurd (omega (zarith, e))
-same-yes (negsuc a) (pos b) e = absurd (omega (zarith, e))
-same-yes (negsuc a) (negsuc b) e = eq-eqb a b (omega (zarith, e))
-
-pub same-no : (a b : ℤ) → (a ≡ b → ⊥) → same a b ≡ false
-same-no (pos a) (pos b) n = ne-eqb a b (λ e. n (ap pos e))
-same-no (pos a) (negsuc b) n = refl
-same-no (negsuc a) (pos b) n = refl
-same-no (negsuc a) (negsuc b) n = ne-eqb a b (λ e. n (ap negsuc e))
-
-module _ {a b : ℤ} (f : SFits w64 a) (g : SFits w64 b) where
-  pub same-by-bits : ofZ w64 a ≡ ofZ w64 b → same a b ≡ true
-  same-by-bits e = same-yes a b (same-bits f g e)
-
-  pub other-by-bits : (ofZ w64 a ≡ ofZ w64 b → ⊥) → same a b ≡ false
-  other-by-bits n = same-no a b (λ e. n (ap (ofZ w64) e))
 
 -- a known frame that is not HAE has rows
 pub past-hae : (f : ℤ) → KnownFrame f → (f ≡ pos 1 → ⊥) → HasRows f

@@ -6,6 +6,7 @@ use mathlib.Core.List.{List, [], _∷_}
 use Prim.Native.Nat.{ℕ, _+_, _*_}
 use lib.Dec.{T, leb}
 use lib.IntN.{ℤ, pos, negsuc, natAbs}
+use Rattle.integers.specs.Sign.{same}
 use Rattle.integers.specs.Range.{Within}
 use Rattle.integers.proofs.Number.{w-lit, w-more, w-neg}
 use Rattle.integers.proofs.Table.{allWithin, all-within}
@@ -14,7 +15,7 @@ use Rattle.angles.specs.Entry.{factorial, part, whole, term, plus, minus, entry
 use Rattle.angles.specs.Sine.{quarterSine, halfSine, sineOf, cosineOf}
 use Rattle.frames.specs.Vector.{at, rowAt, columnOf, wayOf, unitOf, crossPart, crossOf}
 use Rattle.frames.specs.Range.{PartsWithin}
-use Rattle.frames.specs.Frame.{geiRows, hciRows, solarAxis, onEcliptic, acrossOf, heeRows, heeqRows, heeqOf, same, rotationOf, haeTurned, turnedBetween}
+use Rattle.frames.specs.Frame.{geiRows, hciRows, solarAxis, onEcliptic, acrossOf, heeRows, heeqRows, heeqOf, rotationOf, haeTurned, turnedBetween}
 use Rattle.frames.specs.Rtn.{rtnRows}
 use Rattle.frames.proofs.Parts.{three, parts-more, RowsWithin, sizes-of, EntriesWithin, three-rows, entries-more, entries-way, applied-within}
 use Rattle.frames.proofs.Lengths.{squares-fit, unit-small, cross-part-within, cross-within}

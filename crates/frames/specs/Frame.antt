@@ -2,9 +2,9 @@
 -- three numbers that turns HAE into it". `earth` is the Earth's place in HAE on the date.
 use mathlib.Core.Bool.{Bool, true, false, cond}
 use mathlib.Core.List.{List, [], _∷_}
-use lib.Dec.{eqb}
 use lib.IntN.{ℤ, pos, negsuc, negℤ}
 use Rattle.integers.specs.Floor.{unitProduct}
+use Rattle.integers.specs.Sign.{same}
 use Rattle.angles.specs.Sine.{sineOf, cosineOf}
 use Rattle.frames.specs.Vector.{at, rowAt, applied, wayOf, unitOf, crossOf}
 
@@ -58,13 +58,6 @@ heeqOf Y = crossOf Y solarAxis ∷ Y ∷ solarAxis ∷ []
 
 unfoldable pub heeqRows : List ℤ → List (List ℤ)
 heeqRows earth = heeqOf (unitOf (acrossOf earth))
-
--- f and g are one number
-abbrev pub same : ℤ → ℤ → Bool
-same (pos a) (pos b) = eqb a b
-same (pos a) (negsuc b) = false
-same (negsuc a) (pos b) = false
-same (negsuc a) (negsuc b) = eqb a b
 
 -- the rows that turn HAE into frame f, from 2 to 5
 unfoldable pub rotationOf : ℤ → List ℤ → List (List ℤ)

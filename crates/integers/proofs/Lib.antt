@@ -4,6 +4,8 @@
 --     Floor        floor division: the only one, multiples go out of it, its rest, its bounds
 --     Number       `Num x z n`: the machine's x is the number z, and |z| is at most n. One line for each operation
 --     Cast         what the machine reads back, and its casts between signed and unsigned numbers
+--     Below        a number below zero by casts that lose nothing: -1 - z, also for the least number
+--     Same         the test whether two numbers are one, and that the machine tells it by their bits
 --     Division     the machine's quotient and rest, toward zero, and the floor from them
 --     Table        a test that is computed over a whole list, or over all numbers below one, carried to each entry
 --     Roots        the two faces of the square root are one
@@ -12,6 +14,8 @@ pub mod Ring
 pub mod Floor
 pub mod Number
 pub mod Cast
+pub mod Below
+pub mod Same
 pub mod Division
 pub mod Table
 pub mod Roots

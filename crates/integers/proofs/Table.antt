@@ -12,6 +12,14 @@ use lib.IntN.{ℤ, pos, natAbs}
 use lib.ListN.{length, getD}
 use Rattle.integers.specs.Range.{Within}
 
+pub yes : (b : Bool) → T b → b ≡ true
+yes true t = refl
+yes false t = absurd t
+
+pub no : (b : Bool) → (T b → ⊥) → b ≡ false
+no true n = absurd (n tt)
+no false n = refl
+
 abbrev pub both : Bool → Bool → Bool
 both true b = b
 both false b = false

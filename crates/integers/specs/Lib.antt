@@ -1,4 +1,7 @@
--- What the contracts of `integers` cite: ranges, floor division, the product over 10^9, the whole square root.
+-- What the contracts of `integers` cite: ranges, floor division, the product over 10^9, the whole square root; and two definitions
+-- that several crates cite: a number by its sign and size, and bytes put into others.
 pub mod Range
 pub mod Floor
 pub mod Root
+pub mod Sign
+pub mod Buffer

@@ -1,5 +1,5 @@
-// Whole-number arithmetic: floor division of signed numbers, floor(a b / d) where the product does not fit 64 bits, the
-// product over 10^9, and the whole square root. The laws on signed numbers that other crates cite stand in proofs/.
+// Whole-number arithmetic: a number's size and sign, floor division of signed numbers, floor(a b / d) where the product does not
+// fit 64 bits, the product over 10^9, and the whole square root. The laws on signed numbers that other crates cite stand in proofs/.
 ghost use mathlib.Core.Path.{_≡_};
 ghost use Prim.Native.Nat.{_≤_};
 ghost use lib.IntN.{pos, natAbs, _*ℤ_};
@@ -7,6 +7,23 @@ ghost use lib.Signed.{_<ℤ_};
 ghost use Rattle.integers.specs.Range.{ProductFits, SplitFits};
 ghost use Rattle.integers.specs.Floor.{floorDiv, floorMod, unitProduct, endTurn};
 ghost use Rattle.integers.specs.Root.{IsRoot, rootOf};
+ghost use Rattle.integers.specs.Sign.{signed};
+
+// The size of any number: -1 - z is taken before the cast, since 0 - z overflows at the least number.
+pub fn size(z: i64) -> u64
+    ensures { λ r. ⌜ r ≡ natAbs z ⌝ }
+{
+    if z < 0 { (-1 - z) as u64 + 1 } else { z as u64 }
+}
+
+// The number of a size, with a sign.
+pub fn with_sign(negative: bool, size: u64) -> i64
+    requires { ⌜ size ≤ 9223372036854775807 ⌝ }
+    ensures { λ r. ⌜ r ≡ signed negative size ⌝ }
+{
+    let n = size as i64;
+    if negative { 0 - n } else { n }
+}
 
 // floor(a / d). The machine divides toward zero; where that leaves a rest below zero, the floor is one less.
 pub fn floor_div(a: i64, d: i64) -> i64

@@ -8,7 +8,8 @@ use native.Mathlib.Numerals.{add-one}
 use native.Mathlib.Omega.{arith}
 use lib.ListN.{length, take, drop, set, length-append, take-append-drop}
 use lib.Seq.{set-split, take-at, drop-at, drop-drop, length-take-le}
-use Rattle.listing_lines.specs.Put.{replaced, Put}
+use Rattle.integers.specs.Buffer.{replaced}
+use Rattle.listing_lines.specs.Put.{Put}
 
 -- one byte
 pub put-one : (l : List ℕ) (at b : ℕ) → at < length l → Put at (b ∷ []) l (set l at b) (at + 1)

@@ -5,7 +5,7 @@ use mathlib.Core.List.{List, [], _∷_}
 use Prim.Native.Nat.{ℕ, _+_, _-_, _*_}
 use lib.Dec.{leb, eqb}
 use lib.ListN.{length, take, drop}
-use Rattle.dates.specs.Minute.{signed}
+use Rattle.integers.specs.Sign.{signed}
 use Rattle.listing_lines.specs.declared.Digits.{Digits}
 use Rattle.listing_lines.specs.declared.Digits.the-variants.{Value, NoDigits}
 use Rattle.listing_lines.specs.declared.Number.{Number}

@@ -3,10 +3,8 @@ ghost use mathlib.Core.Path.{_≡_};
 ghost use mathlib.Core.Bool.{true};
 ghost use mathlib.Core.List.{[], _∷_, _++_};
 ghost use Prim.Native.Nat.{_+_, _-_, _*_, _≤_, _<_};
-ghost use lib.IntN.{natAbs};
 ghost use lib.ListN.{length, take, drop};
 ghost use Rattle.angles.specs.Sines.{sines};
-ghost use Rattle.dates.specs.Minute.{signed};
 ghost use Rattle.places.specs.Answer.{placeAnswer};
 ghost use Rattle.listing_lines.specs.Request.{isDigit, digitsOf, wholeOf, withSign, spaceAt, askedOf, requestOf};
 ghost use Rattle.listing_lines.specs.Decimal.{decimalOf, signedOf};
@@ -72,19 +70,11 @@ fn digits_in(text: &[u8]) -> Digits
     Digits::Value(n)
 }
 
-fn with_sign(negative: bool, size: u64) -> i64
-    requires { ⌜ size ≤ 9999999999 ⌝ }
-    ensures { λ r. ⌜ r ≡ signed negative size ⌝ }
-{
-    let n = size as i64;
-    if negative { 0 - n } else { n }
-}
-
 fn whole(negative: bool, text: &[u8]) -> Number
     ensures { λ r. ⌜ r ≡ withSign negative (digitsOf (now (text .entry))) ⌝ }
 {
     match digits_in(text) {
-        Digits::Value(n) => Number::Whole(with_sign(negative, n)),
+        Digits::Value(n) => Number::Whole(integers::with_sign(negative, n)),
         Digits::NoDigits => Number::NoNumber,
     }
 }
@@ -182,16 +172,6 @@ fn put_decimal(n: u64, bytes: &mut [u8], at: usize) -> usize
     put_byte(digit_byte(n % 10), bytes, next)
 }
 
-// |z|, which 64 bits without a sign hold also of the least number.
-fn size(z: i64) -> u64
-    ensures { λ r. ⌜ r ≡ natAbs z ⌝ }
-{
-    if z < 0 {
-        return ((-1 - z) as u64) + 1;
-    }
-    z as u64
-}
-
 // A number with its sign, in at most 20 bytes.
 fn put_number(z: i64, bytes: &mut [u8], at: usize) -> usize
     requires { ⌜ at + 20 ≤ length (now bytes) ⌝ }
@@ -199,9 +179,9 @@ fn put_number(z: i64, bytes: &mut [u8], at: usize) -> usize
 {
     if z < 0 {
         let next = put_byte(b'-', bytes, at);
-        return put_decimal(size(z), bytes, next);
+        return put_decimal(integers::size(z), bytes, next);
     }
-    put_decimal(size(z), bytes, at)
+    put_decimal(integers::size(z), bytes, at)
 }
 
 // A number and the byte that ends it.

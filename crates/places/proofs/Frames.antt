@@ -9,6 +9,7 @@ use lib.Dec.{T}
 use lib.IntN.{ℤ, pos, negsuc}
 use lib.Signed.{leZ, ltZ, _≤ℤ_, _<ℤ_}
 use mir.Facts.{and-yes, yes-and}
+use Rattle.integers.proofs.Table.{yes, no}
 use Rattle.integers.specs.Range.{Within}
 use Rattle.integers.proofs.Difference.{zarith}
 use Rattle.integers.proofs.Number.{w-more}
@@ -40,14 +41,6 @@ pub frame-of-test : (f : ℤ) → T (isFrame f) → KnownFrame f
 frame-of-test f t =
     let h = and-yes (leZ (pos 1) f) (leZ f (pos 5)) t in
     record { low = record { le = h .0 }; high = record { le = h .1 } }
-
-pub yes : (b : Bool) → T b → b ≡ true
-yes true t = refl
-yes false t = absurd t
-
-pub no : (b : Bool) → (T b → ⊥) → b ≡ false
-no true n = absurd (n tt)
-no false n = refl
 
 pub test-of-frame : (f : ℤ) → KnownFrame f → isFrame f ≡ true
 test-of-frame f h = yes (isFrame f) (yes-and (leZ (pos 1) f) (leZ f (pos 5)) (h .low .le) (h .high .le))
@@ -82,7 +75,7 @@ still back (pos (suc (suc (suc (suc n))))) h l e d v = absurd (omega (zarith, l)
 between-still : (f g : ℤ) → KnownFrame f → KnownFrame g → f <ℤ pos 4 → g <ℤ pos 4 → (e d v : List ℤ) → turnedBetween f g e v ≡ turnedBetween f g d v
 unfolding turnedBetween
 between-still f g hf hg lf lg e d v =
-    ap (λ (z : List ℤ). mathlib.Core.Bool.cond (Rattle.frames.specs.Frame.same f g) v z)
+    ap (λ (z : List ℤ). mathlib.Core.Bool.cond (Rattle.integers.specs.Sign.same f g) v z)
     (still false g hg lg e d (haeTurned true f e v) ∙ ap (haeTurned false g d) (still true f hf lf e d v))
 
 both-below : (f g : ℤ) → laterOf f g <ℤ pos 4 → (f <ℤ pos 4) × (g <ℤ pos 4)

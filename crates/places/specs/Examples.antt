@@ -23,7 +23,8 @@ use Rattle.dates.specs.Moment.{tested, momentFrom, momentWithin, momentAfter, m
 use Rattle.orbits.specs.Table.{table1, rowOf}
 use Rattle.orbits.specs.Elements.{elementIn, elementsAt, meanAnomalyOf, inclinationOf}
 use Rattle.frames.specs.Vector.{lengthOf, unitOf, crossOf, applied}
-use Rattle.frames.specs.Frame.{same, hciRows, solarAxis}
+use Rattle.integers.specs.Sign.{same}
+use Rattle.frames.specs.Frame.{hciRows, solarAxis}
 use Rattle.frames.specs.Answer.{coordinatesOf}
 use Rattle.frames.specs.Answer as Frames
 use Rattle.frames.specs.Rtn.{rtnRows, rtnTurned, toRtn}

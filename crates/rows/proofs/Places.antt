@@ -10,7 +10,8 @@ use lib.Seq.{take-at, drop-at, drop-drop}
 use mir.Syntax.{w64}
 use mir.Val.{ofZ}
 use borrow.Rule.Slice.PartMut.{putMid, midOf, post-is, mid-len}
-use Rattle.rows.specs.Bytes.{bigEndian, fieldBytes, replaced}
+use Rattle.integers.specs.Buffer.{replaced}
+use Rattle.rows.specs.Bytes.{bigEndian, fieldBytes}
 use Rattle.rows.specs.Layout.{Field, bytesOf}
 use Rattle.rows.proofs.Numbers.{big-length}
 

@@ -26,9 +26,11 @@ use Rattle.rows.specs.declared.Written.{Written}
 use Rattle.rows.specs.declared.Written.the-variants.{Done, Refused as NotWritten}
 use Rattle.rows.specs.Bytes.{bigEndian}
 use Rattle.rows.specs.Layout.{Field, widths, bytesOf, fieldsFrom, numberIn}
-use Rattle.rows.specs.Fields.{layout, bareRow, rowBytes, refusedBytes, fieldsIn, rowOf, same, isRow, areRow, statusAt}
+use Rattle.rows.specs.Fields.{layout, bareRow, rowBytes, refusedBytes, fieldsIn, rowOf, isRow, areRow, statusAt}
 use Rattle.rows.specs.Answer.{foundIf, readOf, writtenIf, written}
-use Rattle.rows.proofs.Twos.{same-eq}
+use Rattle.integers.specs.Sign.{same}
+use Rattle.integers.proofs.Same.{same-eq}
+use Rattle.integers.proofs.Table.{yes}
 use Rattle.rows.proofs.Layouts.{all-bytes, fields-back, bytes-back}
 use Rattle.rows.proofs.Taken.{Counts, row-held}
 use Rattle.rows.proofs.Answers.{read-by, written-by}
@@ -77,10 +79,6 @@ a-refusal-has-a-byte NoRow = tt
 a-refusal-has-a-byte NoSheet = tt
 
 -- ---- reading gives back what was written
-yes : (b : Bool) → T b → b ≡ true
-yes true t = refl
-yes false t = absurd t
-
 module _ (row : Row) (counts : Counts row) (is : T (isRow row)) where
   fields-are : (rest : List ℕ) → fieldsIn (rowBytes row ++ rest) ≡ layout row
   unfolding rowBytes

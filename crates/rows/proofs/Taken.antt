@@ -14,8 +14,9 @@ use Rattle.integers.proofs.Number.{w-fits}
 use Rattle.dates.specs.Moment.{inInterval, firstMinute, lastMinute}
 use Rattle.dates.proofs.Laws.{Inside, of-test, inside-within}
 use Rattle.rows.specs.declared.Row.{Row}
-use Rattle.rows.specs.Fields.{layout, bareRow, same, isGood, isRefused, isRow}
-use Rattle.rows.proofs.Twos.{same-eq}
+use Rattle.rows.specs.Fields.{layout, bareRow, isGood, isRefused, isRow}
+use Rattle.integers.specs.Sign.{same}
+use Rattle.integers.proofs.Same.{same-eq}
 use Rattle.rows.proofs.Layouts.{Holds, holds-64, holds-byte, AllHeld, none, more}
 
 -- x, y, z are numbers of 64 bits

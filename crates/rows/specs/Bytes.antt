@@ -1,5 +1,5 @@
 -- Document 01, "Rows and sheets": a number in bytes, "big-endian" and "two's complement", and back.
-use mathlib.Core.List.{List, [], _∷_, _++_}
+use mathlib.Core.List.{List, [], _∷_}
 use Prim.Native.Nat.{ℕ, zero, suc, _+_, _*_, _/_, _%_, _^_}
 use lib.IntN.{ℤ}
 use lib.ListN.{length, take, drop}
@@ -23,7 +23,3 @@ fieldBytes k z = bigEndian k (ofZ w64 z)
 -- the signed number in the k bytes from place `at` on
 abbrev pub fieldAt : ℕ → ℕ → List ℕ → ℤ
 fieldAt at k bytes = toZ w64 (bigNumber (take k (drop at bytes)))
-
--- bytes with others in the place of those from `at` on
-unfoldable pub replaced : ℕ → List ℕ → List ℕ → List ℕ
-replaced at new bytes = take at bytes ++ (new ++ drop (at + length new) bytes)

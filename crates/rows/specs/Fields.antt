@@ -2,9 +2,9 @@
 use mathlib.Core.Bool.{Bool, false, _&&_, _||_}
 use mathlib.Core.List.{List, [], _∷_, _++_}
 use Prim.Native.Nat.{ℕ, _+_, _*_}
-use lib.Dec.{eqb}
 use lib.IntN.{ℤ, pos, negsuc}
 use lib.ListN.{getD, replicate}
+use Rattle.integers.specs.Sign.{same}
 use Rattle.dates.specs.Moment.{inInterval, firstMinute, lastMinute}
 use Rattle.rows.specs.declared.Row.{Row}
 use Rattle.rows.specs.Layout.{Field, widths, bytesOf, fieldsFrom, numberIn}
@@ -54,12 +54,6 @@ rowOf fields =
       y = numberIn fields 7;
       z = numberIn fields 8;
     }
-
-abbrev pub same : ℤ → ℤ → Bool
-same (pos a) (pos b) = eqb a b
-same (pos a) (negsuc b) = false
-same (negsuc a) (pos b) = false
-same (negsuc a) (negsuc b) = eqb a b
 
 -- "status 0 with a known body and frame and a date in the interval, any x, y, z"
 unfoldable pub isGood : Row → Bool

@@ -1,51 +1,31 @@
 -- `with_sign_of` puts the sign of t before a size of at most 10^9.
--- By the sign of t.
-use borrow.Author.Needs.{needs}
-use mathlib.Core.Path.{_≡_, refl, sym, ap, _∙_}
-use Prim.Native.Nat.{ℕ}
-use lib.Dec.{T, ltb, ltb→lt}
+-- By the two forms of t, of which the machine's test tells one.
+use mathlib.Core.Path.{_≡_, refl, ap, _∙_}
+use mathlib.Core.Bool.{Bool}
+use Prim.Native.Nat.{ℕ, suc}
 use native.Mathlib.Omega.{arith}
-use lib.IntN.{ℤ, pos, negsuc, negℤ, natAbs, _-ℤ_}
-use lib.Signed.{_≤ℤ_, _<ℤ_}
-use mir.Syntax.{w64}
-use mir.Val.{toZ}
-use Rattle.integers.proofs.Ring.{zero-minus}
-use Rattle.integers.proofs.Cast.{read}
-use Rattle.integers.proofs.Number.{Num, arg, lit, w-lit, sub, sub-fits, less, not-less, of-unsigned}
+use lib.IntN.{ℤ, pos, negsuc}
+use lib.Signed.{ltZ}
+use borrow.Author.Tests.{lt-leb}
+use Rattle.integers.specs.Sign.{signed}
+use Rattle.integers.proofs.Cast.{back, back-ok}
 use Rattle.angles.specs.Sine.{withSignOf}
 use Rattle.angles.proofs.with_sign_of.Statement.{statement}
 use Rattle.angles.proofs.with_sign_of.Tie as tie
 
-below : (t : ℤ) (s : ℕ) → t <ℤ pos 0 → withSignOf t s ≡ negℤ (pos s)
-below (pos t) s h = absurd (omega (arith, ltb→lt t 0 (h .lt)))
-below (negsuc t) s h = refl
+by-sign : (t : ℤ) (s : ℕ) → signed (ltZ t (pos 0)) s ≡ withSignOf t s
+by-sign (pos t) s = ap (λ (b : Bool). signed b s) (lt-leb (suc t) 0 (omega arith))
+by-sign (negsuc t) s = refl
 
-not-below : (t : ℤ) (s : ℕ) → pos 0 ≤ℤ t → withSignOf t s ≡ pos s
-not-below (pos t) s h = refl
-not-below (negsuc t) s h = absurd (h .le)
-
-t : (c : tie.Start) → Num (read (c .args .t)) (c .args .t) (natAbs (c .args .t))
-t c = arg (c .fits .t) (w-lit (c .args .t))
-
-s : (c : tie.Start) → Num (toZ w64 (c .args .s)) (pos (c .args .s)) 1000000000
-s c = of-unsigned (c .pre) tt
-
-cast-h : tie.Need-cast-h
-cast-h c = search needs
-
-sub-result : tie.Need-sub-result
-sub-result c = sub-fits (lit (pos 0)) (s (c .before)) tt
+with-sign-requires : tie.Need-with-sign-requires
+with-sign-requires c κs = omega (arith, c .pre)
 
 returns : tie.Need-returns
 returns c =
-    let a = c .before .args in
-    sub (lit (pos 0)) (s (c .before)) tt .is ∙ zero-minus (pos (a .s))
-    ∙ sym (below (a .t) (a .s) (less (t (c .before)) (lit (pos 0)) (c .if1 .taken)))
-
-returns-2 : tie.Need-returns-2
-returns-2 c =
-    let a = c .before .args in
-    s (c .before) .is ∙ sym (not-below (a .t) (a .s) (not-less (t (c .before)) (lit (pos 0)) (c .if1 .left)))
+    let s = c .before in
+    back-ok (c .with-sign .result) (c .with-sign .ok) ∙ c .with-sign .ensures
+    ∙ ap (λ (z : ℤ). signed (ltZ z (pos 0)) (s .args .s)) (back (s .args .t) (s .fits .t))
+    ∙ by-sign (s .args .t) (s .args .s)
 
 pub with-sign-of-spec : {M : Type 1} → statement M
-with-sign-of-spec = tie.close (tie.spec cast-h sub-result returns returns-2)
+with-sign-of-spec = tie.close (tie.spec with-sign-requires returns)

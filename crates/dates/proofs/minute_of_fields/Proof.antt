@@ -11,7 +11,8 @@ use Rattle.integers.specs.Range.{Within}
 use Rattle.integers.proofs.Cast.{read}
 use Rattle.integers.proofs.Number.{Num, got, lit, sub, sub-fits, w-neg, w-mul, w-add, w-lit, w-floor-any}
 use Rattle.dates.specs.Reach.{RoundFits}
-use Rattle.dates.specs.Minute.{minute, signed, rounded}
+use Rattle.integers.specs.Sign.{signed}
+use Rattle.dates.specs.Minute.{minute, rounded}
 use Rattle.dates.proofs.Fields.{near-minute, small-minute}
 use Rattle.dates.proofs.minute_of_fields.Statement.{statement}
 use Rattle.dates.proofs.minute_of_fields.Tie as tie

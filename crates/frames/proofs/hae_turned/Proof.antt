@@ -6,12 +6,13 @@ use mathlib.Core.List.{List}
 use lib.IntN.{ℤ, pos}
 use mir.Syntax.{w64}
 use mir.Val.{ofZ}
+use Rattle.integers.proofs.Same.{same-by-bits, other-by-bits}
 use Rattle.integers.proofs.Cast.{back}
 use Rattle.integers.proofs.Number.{w-fits, w-lit}
 use Rattle.frames.specs.Vector.{applied, wayOf}
 use Rattle.frames.specs.Range.{HasRows, TurnFits}
 use Rattle.frames.specs.Frame.{rotationOf, haeTurned}
-use Rattle.frames.proofs.Choice.{same-by-bits, other-by-bits, past-hae}
+use Rattle.frames.proofs.Choice.{past-hae}
 use Rattle.frames.proofs.Parts.{turn-fits}
 use Rattle.frames.proofs.Rows.{rotation-way}
 use Rattle.frames.proofs.hae_turned.Statement.{statement}

@@ -8,9 +8,10 @@ use lib.Dec.{T, ltb}
 use lib.IntN.{pos}
 use mir.Syntax.{w64}
 use mir.Val.{ofZ}
+use Rattle.integers.specs.Sign.{same}
+use Rattle.integers.proofs.Same.{same-by-bits, other-by-bits}
 use Rattle.integers.proofs.Number.{w-fits, w-lit}
-use Rattle.frames.specs.Frame.{same, rotationOf}
-use Rattle.frames.proofs.Choice.{same-by-bits, other-by-bits}
+use Rattle.frames.specs.Frame.{rotationOf}
 use Rattle.frames.proofs.rotation.Statement.{statement}
 use Rattle.frames.proofs.rotation.Tie as tie
 

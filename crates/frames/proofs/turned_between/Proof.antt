@@ -4,10 +4,10 @@ use borrow.Author.Needs.{needs}
 use mathlib.Core.Path.{_≡_, subst, sym, ap, _∙_}
 use mathlib.Core.Bool.{true, false}
 use lib.IntN.{ℤ}
+use Rattle.integers.proofs.Same.{same-by-bits, other-by-bits}
 use Rattle.integers.proofs.Cast.{read, back}
 use Rattle.frames.specs.Range.{PartsWithin}
 use Rattle.frames.specs.Frame.{haeTurned, turnedBetween}
-use Rattle.frames.proofs.Choice.{same-by-bits, other-by-bits}
 use Rattle.frames.proofs.Parts.{parts-more}
 use Rattle.frames.proofs.Rows.{to-hae-within}
 use Rattle.frames.proofs.turned_between.Statement.{statement}

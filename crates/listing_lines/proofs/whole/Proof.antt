@@ -1,6 +1,7 @@
 -- `whole` puts the sign before the number of the digits, where they are one.
 -- By the two cases of the digits; ten of them stand for a number below 10^10.
 use mathlib.Core.Path.{_≡_, sym, ap, _∙_}
+use native.Mathlib.Omega.{arith}
 use Rattle.integers.proofs.Cast.{back-ok}
 use Rattle.listing_lines.specs.declared.Digits.the-variants.{Value}
 use Rattle.listing_lines.specs.declared.Number.the-variants.{Whole}
@@ -21,7 +22,8 @@ told : (t : tie.After-known-told) → digitsOf (t .before .before .before .befor
 told t = sym (t .before .before .before .digits-in .ensures) ∙ t .before .n .given .1
 
 with-sign-requires : tie.Need-with-sign-requires
-with-sign-requires c κs = digits-small (c .before .before .before .before .before .args .text .now) (c .before .n .given .0 .0) (told c)
+with-sign-requires c κs =
+    omega (arith, digits-small (c .before .before .before .before .before .args .text .now) (c .before .n .given .0 .0) (told c))
 
 enum-told : tie.Need-enum-told
 enum-told c = search needs

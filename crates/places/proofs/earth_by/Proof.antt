@@ -12,7 +12,7 @@ use Rattle.integers.proofs.Number.{Num, arg, lit, w-lit, known, w-read, less, n
 use Rattle.orbits.specs.Range.{IsBody}
 use Rattle.places.specs.Answer.{haeAt}
 use Rattle.places.specs.Earth.{needsEarth, earthIf}
-use Rattle.places.proofs.Frames.{yes, no}
+use Rattle.integers.proofs.Table.{yes, no}
 use Rattle.places.proofs.earth_by.Statement.{statement}
 use Rattle.places.proofs.earth_by.Tie as tie
 

@@ -8,7 +8,8 @@ use Rattle.integers.proofs.Difference.{zarith}
 use Rattle.integers.proofs.Cast.{read, back}
 use Rattle.integers.proofs.Number.{Num, arg, lit, w-lit, less, not-less}
 use Rattle.places.specs.Answer.{isFrame}
-use Rattle.places.proofs.Frames.{yes, test-of-no-frame}
+use Rattle.integers.proofs.Table.{yes}
+use Rattle.places.proofs.Frames.{test-of-no-frame}
 use Rattle.places.proofs.is_frame.Statement.{statement}
 use Rattle.places.proofs.is_frame.Tie as tie
 

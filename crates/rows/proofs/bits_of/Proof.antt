@@ -5,7 +5,8 @@ use lib.Signed.{_≤ℤ_, _<ℤ_}
 use mathlib.Core.Path.{_∙_, ap}
 use Rattle.integers.proofs.Cast.{back, cast-fits}
 use Rattle.integers.proofs.Number.{arg, lit, w-lit, at-most, not-at-most}
-use Rattle.rows.proofs.Twos.{bits-up, abs-small, less-fits, less-casts, less-small, less-bits}
+use Rattle.integers.proofs.Below.{abs-small, less-fits, less-casts}
+use Rattle.rows.proofs.Twos.{bits-up, less-small, less-bits}
 use Rattle.rows.proofs.bits_of.Statement.{statement}
 use Rattle.rows.proofs.bits_of.Tie as tie
 

@@ -7,7 +7,8 @@ use Prim.Native.Nat.{_≤_}
 use native.Mathlib.Omega.{arith}
 use lib.ListN.{length}
 use Rattle.rows.specs.declared.Row.{Row}
-use Rattle.rows.specs.Bytes.{bigEndian, replaced}
+use Rattle.integers.specs.Buffer.{replaced}
+use Rattle.rows.specs.Bytes.{bigEndian}
 use Rattle.rows.specs.Layout.{bytesOf}
 use Rattle.rows.specs.Fields.{layout, rowBytes}
 use Rattle.rows.proofs.Places.{puts, puts-are}

@@ -7,10 +7,11 @@ use lib.Dec.{leb}
 use borrow.Author.Tests.{le-leb, lt-leb}
 use lib.ListN.{length}
 use lib.IntN.{ℤ, pos}
+use Rattle.integers.specs.Sign.{same}
 use Rattle.integers.proofs.Cast.{back-ok}
 use Rattle.rows.specs.declared.ReadAnswer.the-variants.{Found}
 use Rattle.rows.specs.Layout.{fieldsFrom}
-use Rattle.rows.specs.Fields.{fieldsIn, same, isRow, areRow}
+use Rattle.rows.specs.Fields.{fieldsIn, isRow, areRow}
 use Rattle.rows.proofs.Answers.{read-by}
 use Rattle.rows.proofs.read_row.Statement.{statement}
 use Rattle.rows.proofs.read_row.Tie as tie

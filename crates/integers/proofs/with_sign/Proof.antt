@@ -1,4 +1,4 @@
--- `with_sign` puts a sign before a number of at most 45·2^53.
+-- `with_sign` puts a sign before a number that fits.
 -- By the sign: below zero it is 0 less the number.
 use borrow.Author.Needs.{needs}
 use mathlib.Core.Bool.{Bool}
@@ -6,13 +6,13 @@ use mathlib.Core.Path.{_≡_, sym, ap, _∙_}
 use lib.IntN.{pos}
 use mir.Syntax.{w64}
 use mir.Val.{toZ}
 use Rattle.integers.proofs.Number.{Num, lit, of-unsigned, sub, sub-fits}
 use Rattle.integers.proofs.Ring.{zero-minus}
-use Rattle.dates.specs.Minute.{signed}
-use Rattle.dates.proofs.with_sign.Statement.{statement}
-use Rattle.dates.proofs.with_sign.Tie as tie
+use Rattle.integers.specs.Sign.{signed}
+use Rattle.integers.proofs.with_sign.Statement.{statement}
+use Rattle.integers.proofs.with_sign.Tie as tie
 
-n : (c : tie.Start) → Num (toZ w64 (c .args .size)) (pos (c .args .size)) 405323966463344640
+n : (c : tie.Start) → Num (toZ w64 (c .args .size)) (pos (c .args .size)) 9223372036854775807
 n c = of-unsigned (c .pre) tt
 
 by-sign : (c : tie.Start) {s : Bool} → c .args .negative ≡ s → signed s (c .args .size) ≡ signed (c .args .negative) (c .args .size)
