@@ -248,14 +248,22 @@ pub fn place_of_by(table: &[u32; 901], elements: Elements) -> Vector
     ecliptic(k, p.x, p.y)
 }
 
-// The row of Table 1 of body 1 to 9.
+// The row of Table 1 of body 1 to 9. One row is named in each case, since a constant is built again wherever it is named.
 pub fn row_of(body: i64) -> [i64; 12]
     requires { ⌜ IsBody body ⌝ }
     ensures { λ r. ⌜ r ≡ rowOf body ⌝ }
 {
-    let rows = table::TABLE_1;
-    let k = (body - 1) as usize;
-    rows[k]
+    match body {
+        1 => table::MERCURY,
+        2 => table::VENUS,
+        3 => table::EM_BARY,
+        4 => table::MARS,
+        5 => table::JUPITER,
+        6 => table::SATURN,
+        7 => table::URANUS,
+        8 => table::NEPTUNE,
+        _ => table::PLUTO,
+    }
 }
 
 // The elements of a body of Table 1 on a minute of its interval.

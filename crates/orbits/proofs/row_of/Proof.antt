@@ -1,57 +1,69 @@
--- `row_of` takes the row of a body out of Table 1.
--- The constant is `table1` by computation, and the body's place in it is below nine.
-use borrow.Author.Needs.{needs}
-use mathlib.Core.Path.{_≡_, ap, sym, subst, _∙_}
-use mathlib.Core.List.{List, []}
-use Prim.Native.Nat.{ℕ, _-_, _*_, _≤_, _<_}
-use native.Mathlib.Omega.{arith}
-use lib.IntN.{ℤ, pos, negsuc, natAbs, _-ℤ_}
-use lib.ListN.{getD}
-use lib.Signed.{_≤ℤ_}
-use Rattle.integers.specs.Range.{Within}
-use Rattle.integers.proofs.Difference.{zarith, d-minus}
-use Rattle.integers.proofs.Cast.{read}
-use Rattle.integers.proofs.Number.{Num, arg, lit, sub, sub-fits, also, with-bound, cast-num}
-use Rattle.orbits.specs.Table.{table1}
+-- `row_of` gives the row of a body in Table 1.
+-- The match tells the body by its bits, and each constant is the body's row of `table1` by computation; the last case is body 9.
+use mathlib.Core.Path.{_≡_, ap, sym}
+use Prim.Native.Nat.{ℕ, _^_, _≤_}
+use lib.Dec.{T, ltb, ltb→lt}
+use lib.IntN.{ℤ, pos, negsuc}
+use mir.Syntax.{w64}
+use mir.Val.{ofZ}
+use Rattle.integers.proofs.Difference.{zarith}
+use Rattle.integers.proofs.Cast.{same-bits, pos-fits}
+use Rattle.orbits.specs.Table.{table1, rowOf}
 use Rattle.orbits.specs.Range.{IsBody}
 use Rattle.orbits.proofs.row_of.Statement.{statement}
 use Rattle.orbits.proofs.row_of.Tie as tie
 
-small : (z : ℤ) → IsBody z → Within 9 z
-small (pos n) h = record { within = omega (zarith, h .high) }
-small (negsuc n) h = absurd (h .low .le)
-
-less-one : (z : ℤ) → IsBody z → z -ℤ pos 1 ≡ pos (natAbs z - 1)
-less-one (pos n) h = omega (zarith, h .low, d-minus (pos n) (pos 1))
-less-one (negsuc n) h = absurd (h .low .le)
-
-body : (c : tie.Start) → Num (read (c .args .body)) (c .args .body) 9
-body c = arg (c .fits .body) (small (c .args .body) (c .pre))
-
-place : (c : tie.Start) → Num (read (read (c .args .body) -ℤ pos 1)) (pos (natAbs (c .args .body) - 1)) 10
-place c = also (sub (body c) (lit (pos 1)) tt) (less-one (c .args .body) (c .pre))
-
-index : (c : tie.Start) → natAbs (read (read (c .args .body) -ℤ pos 1)) ≡ natAbs (c .args .body) - 1
-index c = ap natAbs (place c .is)
-
-below : (c : tie.Start) → natAbs (c .args .body) - 1 < 9
-below c = let h = small (c .args .body) (c .pre) in omega (arith, h .within)
-
-sub-k : tie.Need-sub-k
-sub-k c = sub-fits (body c) (lit (pos 1)) tt
-
-cast-k : tie.Need-cast-k
-cast-k c = cast-num (place c) (omega zarith) tt
-
-mul-result : tie.Need-mul-result
-mul-result c = record { fits = rw (index c) (omega (arith, below c)) }
-
-array-copy-out-result : tie.Need-array-copy-out-result
-array-copy-out-result c = subst (λ (n : ℕ). n < 9) (sym (index c)) (below c)
+-- the row of the body whose bits are k
+row-by-bits : (c : tie.Start) (k : ℕ) → T (ltb k (2 ^ 63)) → ofZ w64 (c .args .body) ≡ k → rowOf (pos k) ≡ rowOf (c .args .body)
+row-by-bits c k t e = ap rowOf (sym (same-bits (c .fits .body) (pos-fits k (ltb→lt k (2 ^ 63) t)) e))
 
 returns : tie.Need-returns
 unfolding table1
-returns c = ap (λ (n : ℕ). getD table1 n []) (index (c .before))
+returns c = row-by-bits (c .before) 1 tt (c .match .keys1)
+
+returns-2 : tie.Need-returns-2
+unfolding table1
+returns-2 c = row-by-bits (c .before) 2 tt (c .match .keys2)
+
+returns-3 : tie.Need-returns-3
+unfolding table1
+returns-3 c = row-by-bits (c .before) 3 tt (c .match .keys3)
+
+returns-4 : tie.Need-returns-4
+unfolding table1
+returns-4 c = row-by-bits (c .before) 4 tt (c .match .keys4)
+
+returns-5 : tie.Need-returns-5
+unfolding table1
+returns-5 c = row-by-bits (c .before) 5 tt (c .match .keys5)
+
+returns-6 : tie.Need-returns-6
+unfolding table1
+returns-6 c = row-by-bits (c .before) 6 tt (c .match .keys6)
+
+returns-7 : tie.Need-returns-7
+unfolding table1
+returns-7 c = row-by-bits (c .before) 7 tt (c .match .keys7)
+
+returns-8 : tie.Need-returns-8
+unfolding table1
+returns-8 c = row-by-bits (c .before) 8 tt (c .match .keys8)
+
+-- a body that is none of the eight is the ninth
+abbrev Not : ℤ → ℕ → Type 0
+Not z k = ofZ w64 z ≡ k → ⊥
+
+the-last : (z : ℤ) → IsBody z → (((((((Unit {0} × Not z 1) × Not z 2) × Not z 3) × Not z 4) × Not z 5) × Not z 6) × Not z 7) × Not z 8 → rowOf (pos 9) ≡ rowOf z
+the-last (pos n) h r =
+    let s = r .0 .0 .0 .0 in
+    let five : 5 ≤ n = omega (zarith, h .low, s .1, s .0 .1, s .0 .0 .1, s .0 .0 .0 .1) in
+    let nine : n ≡ 9 = omega (zarith, five, h .high, r .1, r .0 .1, r .0 .0 .1, r .0 .0 .0 .1) in
+    ap (λ (k : ℕ). rowOf (pos k)) (sym nine)
+the-last (negsuc n) h r = absurd (h .low .le)
+
+returns-9 : tie.Need-returns-9
+unfolding table1
+returns-9 c = the-last (c .before .args .body) (c .before .pre) (c .match .rest)
 
 pub row-of-spec : {M : Type 1} → statement M
-row-of-spec = tie.close (tie.spec sub-k cast-k mul-result array-copy-out-result returns)
+row-of-spec = tie.close (tie.spec returns returns-2 returns-3 returns-4 returns-5 returns-6 returns-7 returns-8 returns-9)
