@@ -21,8 +21,9 @@ enum {
 #define RADIANS 0.017453292519943295
 #define EPOCH 2451545.0
 
-/* The inputs. Bodies are 1 to 8, since eraPlan94 has no Pluto. */
-static int64_t minutes[CALLS], bodies[CALLS], angles[CALLS];
+/* The inputs. eraPlan94 has no Pluto: the lines that show it ask for bodies 1 to 8 on both sides. */
+static int64_t minutes[CALLS], nine_bodies[CALLS], eight_bodies[CALLS], angles[CALLS];
+static const int64_t *bodies;
 static double julian_dates[CALLS];
 
 static uint8_t rows[LINDENBROOD_MOST_ROWS * LINDENBROOD_ROW_BYTES];
@@ -50,7 +51,8 @@ static void make_inputs(void)
     for (int i = 0; i < CALLS; i++) {
         minutes[i] = chance_between(LINDENBROOD_FIRST_MINUTE, LINDENBROOD_LAST_MINUTE - span);
         julian_dates[i] = EPOCH + (double)minutes[i] / DAY;
-        bodies[i] = chance_between(1, 8);
+        nine_bodies[i] = chance_between(1, 9);
+        eight_bodies[i] = chance_between(1, 8);
         angles[i] = chance_between(-180000000, 179999999);
     }
 }
@@ -127,6 +129,19 @@ static double our_sines(int64_t unused)
     return (double)sum;
 }
 
+#ifdef WITH_LENT
+int64_t greatest_sine(const int64_t *counts, size_t length);
+
+/* The same sines over one table that is lent to each call. */
+static double lent_sines(int64_t unused)
+{
+    (void)unused;
+    return (double)greatest_sine(angles, CALLS);
+}
+#else
+#define lent_sines NULL
+#endif
+
 static double plain_sines(int64_t unused)
 {
     double sum = 0;
@@ -134,6 +149,28 @@ static double plain_sines(int64_t unused)
     (void)unused;
     for (int i = 0; i < CALLS; i++)
         sum += sin((double)angles[i] / 1e6 * RADIANS);
+    return sum;
+}
+
+static double our_elements(int64_t unused)
+{
+    double sum = 0;
+
+    (void)unused;
+    for (int i = 0; i < CALLS; i++)
+        sum += (double)lindenbrood_elements_minutes(minutes[i], bodies[i]).mean_longitude;
+    return sum;
+}
+
+static double plain_elements(int64_t unused)
+{
+    double sum = 0, elements[6];
+
+    (void)unused;
+    for (int i = 0; i < CALLS; i++) {
+        double_elements((double)minutes[i], (int)bodies[i], elements);
+        sum += elements[3];
+    }
     return sum;
 }
 
@@ -208,22 +245,26 @@ static double plain_sheets(int64_t frame)
 
 typedef struct {
     const char *what;
-    int64_t parameter; /* frame, or eccentricity in 10^-8 */
-    batch batches[3];  /* ours, the plain program's, eraPlan94's; NULL where there is none */
+    int64_t parameter;     /* frame, or eccentricity in 10^-8 */
+    const int64_t *bodies; /* who is asked for */
+    batch batches[3];      /* ours, the plain program's, eraPlan94's; NULL where there is none */
 } line;
 
 static const line lines[] = {
-    {"place in HAE", LINDENBROOD_HAE, {our_places, plain_places, plan94_places}},
-    {"place in HEEQ", LINDENBROOD_HEEQ, {our_places, plain_places, NULL}},
-    {"solve, e 0.0068", 680000, {our_solves, plain_solves, NULL}},
-    {"solve, e 0.0167", 1670000, {our_solves, plain_solves, NULL}},
-    {"solve, e 0.0934", 9340000, {our_solves, plain_solves, NULL}},
-    {"solve, e 0.2056", 20560000, {our_solves, plain_solves, NULL}},
-    {"solve, e 0.2488", 24880000, {our_solves, plain_solves, NULL}},
-    {"solve, e 0.9", 90000000, {our_solves, plain_solves, NULL}},
-    {"sine", 0, {our_sines, plain_sines, NULL}},
-    {"row in HAE, Julian date", LINDENBROOD_HAE, {our_rows, plain_rows, NULL}},
-    {"row of a 400-row sheet", LINDENBROOD_HAE, {our_sheets, plain_sheets, NULL}},
+    {"place in HAE", LINDENBROOD_HAE, nine_bodies, {our_places, plain_places, NULL}},
+    {"the same, bodies 1 to 8", LINDENBROOD_HAE, eight_bodies, {our_places, plain_places, plan94_places}},
+    {"place in HEEQ", LINDENBROOD_HEEQ, nine_bodies, {our_places, plain_places, NULL}},
+    {"solve, e 0.0068", 680000, nine_bodies, {our_solves, plain_solves, NULL}},
+    {"solve, e 0.0167", 1670000, nine_bodies, {our_solves, plain_solves, NULL}},
+    {"solve, e 0.0934", 9340000, nine_bodies, {our_solves, plain_solves, NULL}},
+    {"solve, e 0.2056", 20560000, nine_bodies, {our_solves, plain_solves, NULL}},
+    {"solve, e 0.2488", 24880000, nine_bodies, {our_solves, plain_solves, NULL}},
+    {"solve, e 0.9", 90000000, nine_bodies, {our_solves, plain_solves, NULL}},
+    {"elements", 0, nine_bodies, {our_elements, plain_elements, NULL}},
+    {"sine", 0, nine_bodies, {our_sines, plain_sines, NULL}},
+    {"sine, by a lent table", 0, nine_bodies, {lent_sines, plain_sines, NULL}},
+    {"row in HAE, Julian date", LINDENBROOD_HAE, nine_bodies, {our_rows, plain_rows, NULL}},
+    {"row of a 400-row sheet", LINDENBROOD_HAE, nine_bodies, {our_sheets, plain_sheets, NULL}},
 };
 enum { LINES = sizeof lines / sizeof *lines };
 
@@ -266,11 +307,14 @@ int main(void)
     for (int round = 0; round < ROUNDS; round++)
         for (int i = 0; i < LINES; i++)
             for (int side = 0; side < 3; side++)
-                if (lines[i].batches[side] != NULL)
+                if (lines[i].batches[side] != NULL) {
+                    bodies = lines[i].bodies;
                     least[i][side] = fmin(least[i][side], time_of(lines[i].batches[side], lines[i].parameter));
+                }
 
     printf("%-26s %8s %11s %8s %11s %8s\n", "nanoseconds", "ours", "plain C", "ratio", "eraPlan94", "ratio");
     for (int i = 0; i < LINES; i++)
-        print_line(lines[i].what, least[i]);
+        if (lines[i].batches[0] != NULL)
+            print_line(lines[i].what, least[i]);
     return 0;
 }
