@@ -7,7 +7,7 @@ ghost use lib.Signed.{_<ℤ_};
 ghost use Rattle.integers.specs.Range.{ProductFits, SplitFits};
 ghost use Rattle.integers.specs.Floor.{floorDiv, floorMod, unitProduct, endTurn};
 ghost use Rattle.integers.specs.Root.{IsRoot, rootOf};
-ghost use Rattle.integers.specs.Sign.{signed};
+ghost use Rattle.integers.specs.Sign.{signed, larger};
 
 // The size of any number: -1 - z is taken before the cast, since 0 - z overflows at the least number.
 pub fn size(z: i64) -> u64
@@ -23,6 +23,13 @@ pub fn with_sign(negative: bool, size: u64) -> i64
 {
     let n = size as i64;
     if negative { 0 - n } else { n }
+}
+
+// The larger of two numbers.
+pub fn larger(a: i64, b: i64) -> i64
+    ensures { λ r. ⌜ r ≡ larger a b ⌝ }
+{
+    if a < b { b } else { a }
 }
 
 // floor(a / d). The machine divides toward zero; where that leaves a rest below zero, the floor is one less.

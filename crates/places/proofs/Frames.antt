@@ -34,7 +34,8 @@ use Rattle.frames.proofs.Parts.{three}
 use Rattle.frames.proofs.Rows.{from-hae-within}
 use Rattle.projector.specs.Au.{CountsExact}
 use Rattle.places.specs.Answer.{isFrame, listOf, haeAt, earthAt, placeIf, placeOn, placeAnswer}
-use Rattle.places.specs.Earth.{needsEarth, earthIf, choose, laterOf}
+use Rattle.integers.specs.Sign.{choose, larger}
+use Rattle.places.specs.Earth.{needsEarth, earthIf}
 
 -- ---- a frame's test
 pub frame-of-test : (f : ℤ) → T (isFrame f) → KnownFrame f
@@ -78,20 +79,20 @@ between-still f g hf hg lf lg e d v =
     ap (λ (z : List ℤ). mathlib.Core.Bool.cond (Rattle.integers.specs.Sign.same f g) v z)
     (still false g hg lg e d (haeTurned true f e v) ∙ ap (haeTurned false g d) (still true f hf lf e d v))
 
-both-below : (f g : ℤ) → laterOf f g <ℤ pos 4 → (f <ℤ pos 4) × (g <ℤ pos 4)
+both-below : (f g : ℤ) → larger f g <ℤ pos 4 → (f <ℤ pos 4) × (g <ℤ pos 4)
 both-below f g = go (ltZ f g) refl
   where
     go : (b : Bool) → ltZ f g ≡ b → choose b g f <ℤ pos 4 → (f <ℤ pos 4) × (g <ℤ pos 4)
     go true e h = (omega (zarith, h), h)
     go false e h = (h, omega (zarith, h))
 
-pub earth-enough : (f g m : ℤ) (v : List ℤ) → KnownFrame f → KnownFrame g → turnedBetween f g (earthIf (needsEarth (laterOf f g)) m) v ≡ turnedBetween f g (earthAt m) v
-earth-enough f g m v hf hg = go (needsEarth (laterOf f g)) refl
+pub earth-enough : (f g m : ℤ) (v : List ℤ) → KnownFrame f → KnownFrame g → turnedBetween f g (earthIf (needsEarth (larger f g)) m) v ≡ turnedBetween f g (earthAt m) v
+earth-enough f g m v hf hg = go (needsEarth (larger f g)) refl
   where
-    go : (b : Bool) → leZ (pos 4) (laterOf f g) ≡ b → turnedBetween f g (earthIf b m) v ≡ turnedBetween f g (earthAt m) v
+    go : (b : Bool) → leZ (pos 4) (larger f g) ≡ b → turnedBetween f g (earthIf b m) v ≡ turnedBetween f g (earthAt m) v
     go true e = refl
     go false e =
-        let l : laterOf f g <ℤ pos 4 = omega zarith in
+        let l : larger f g <ℤ pos 4 = omega zarith in
         let p = both-below f g l in
         between-still f g hf hg (p .0) (p .1) zeros (earthAt m) v
 

@@ -3,7 +3,7 @@
 use mathlib.Core.Bool.{Bool, true, false}
 use mathlib.Core.List.{List}
 use lib.IntN.{ℤ, pos}
-use lib.Signed.{leZ, ltZ}
+use lib.Signed.{leZ}
 use Rattle.frames.specs.Vector.{zeros}
 use Rattle.places.specs.Answer.{earthAt}
 
@@ -13,11 +13,3 @@ needsEarth f = leZ (pos 4) f
 abbrev pub earthIf : Bool → ℤ → List ℤ
 earthIf true m = earthAt m
 earthIf false m = zeros
-
-abbrev pub choose : Bool → ℤ → ℤ → ℤ
-choose true a b = a
-choose false a b = b
-
--- the later of two frames, by its number
-abbrev pub laterOf : ℤ → ℤ → ℤ
-laterOf f g = choose (ltZ f g) g f

@@ -10,7 +10,7 @@ ghost use Rattle.frames.specs.Range.{PartsWithin, KnownFrame};
 ghost use Rattle.frames.specs.Frame.{turnedBetween};
 ghost use Rattle.frames.specs.Answer.{inReach, placeOf};
 ghost use Rattle.places.specs.Answer.{isFrame, listOf, haeAt, earthAt, placeIf, placeOn, placeAnswer, turnIf, turnOn, turnAnswer, auAnswer};
-ghost use Rattle.places.specs.Earth.{needsEarth, earthIf, laterOf};
+ghost use Rattle.places.specs.Earth.{needsEarth, earthIf};
 use dates::Date;
 use dates::Moment;
 use frames::Place;
@@ -62,13 +62,6 @@ fn earth_by(table: &[u32; 901], frame: i64, minute: i64) -> [i64; 3]
     hae_by(table, 3, minute)
 }
 
-// The later of two frames, by its number.
-fn later(from: i64, to: i64) -> i64
-    ensures { λ r. ⌜ r ≡ laterOf from to ⌝ }
-{
-    if from < to { to } else { from }
-}
-
 // A vector turned on an accepted minute between two frames.
 fn turned_by(table: &[u32; 901], from: i64, to: i64, v: [i64; 3], minute: i64) -> Place
     requires { ⌜ now table ≡ sines ⌝ }
@@ -78,7 +71,7 @@ fn turned_by(table: &[u32; 901], from: i64, to: i64, v: [i64; 3], minute: i64) -
     requires { ⌜ TwoCenturies minute ⌝ }
     ensures { λ r. ⌜ r ≡ placeOf (turnedBetween from to (earthAt minute) v) ⌝ }
 {
-    let earth = earth_by(table, later(from, to), minute);
+    let earth = earth_by(table, integers::larger(from, to), minute);
     from_parts(frames::turned_between(from, to, earth, v))
 }
 

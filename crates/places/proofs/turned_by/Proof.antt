@@ -9,7 +9,8 @@ use Rattle.integers.proofs.Number.{known, w-read}
 use Rattle.frames.specs.Range.{PartsWithin, KnownFrame}
 use Rattle.frames.specs.Frame.{turnedBetween}
 use Rattle.frames.specs.Answer.{placeOf}
-use Rattle.places.specs.Earth.{needsEarth, earthIf, laterOf}
+use Rattle.integers.specs.Sign.{larger}
+use Rattle.places.specs.Earth.{needsEarth, earthIf}
 use Rattle.places.proofs.Frames.{earth-if-within, earth-enough}
 use Rattle.places.proofs.turned_by.Statement.{statement}
 use Rattle.places.proofs.turned_by.Tie as tie
@@ -21,17 +22,17 @@ module _ (s : tie.Start) where
   to-is : read (s .args .to) ≡ s .args .to
   to-is = back (s .args .to) (s .fits .to)
 
-later-requires : tie.Need-later-requires
-later-requires c κs = search needs
+larger-requires : tie.Need-larger-requires
+larger-requires c κs = search needs
 
 earth-by-requires : tie.Need-earth-by-requires
 earth-by-requires c κs = let s = c .before in (s .pre .0, record { minute = w-read (s .pre .1 .1 .1 .1 .minute) tt })
 
-earth-is : (c : tie.After-earth-by) → c .earth-by .result ≡ earthIf (needsEarth (laterOf (c .before .before .args .from) (c .before .before .args .to))) (c .before .before .args .minute)
+earth-is : (c : tie.After-earth-by) → c .earth-by .result ≡ earthIf (needsEarth (larger (c .before .before .args .from) (c .before .before .args .to))) (c .before .before .args .minute)
 earth-is c =
     let l = c .before in
     let s = l .before in
-    let f = back-ok (l .later .result) (l .later .ok) ∙ l .later .ensures ∙ (λ i. laterOf (from-is s i) (to-is s i)) in
+    let f = back-ok (l .larger .result) (l .larger .ok) ∙ l .larger .ensures ∙ (λ i. larger (from-is s i) (to-is s i)) in
     c .earth-by .ensures ∙ (λ i. earthIf (needsEarth (f i)) (known (s .pre .1 .1 .1 .1 .minute) tt .is i))
 
 turned-between-requires : tie.Need-turned-between-requires
@@ -41,7 +42,7 @@ turned-between-requires c κs =
       (
         subst KnownFrame (sym (to-is s)) (s .pre .1 .1 .0),
         (
-          subst (PartsWithin 1000000000) (sym (earth-is c)) (earth-if-within (needsEarth (laterOf (s .args .from) (s .args .to))) (s .args .minute) (s .pre .1 .1 .1 .1)),
+          subst (PartsWithin 1000000000) (sym (earth-is c)) (earth-if-within (needsEarth (larger (s .args .from) (s .args .to))) (s .args .minute) (s .pre .1 .1 .1 .1)),
           s .pre .1 .1 .1 .0,
         ),
       ),
@@ -61,4 +62,4 @@ returns c =
 pub turned-by-spec : {M : Type 1} → statement M
 turned-by-spec =
     tie.close
-    (tie.spec later-requires earth-by-requires turned-between-requires from-parts-requires returns)
+    (tie.spec larger-requires earth-by-requires turned-between-requires from-parts-requires returns)
