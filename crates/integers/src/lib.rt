@@ -139,12 +139,12 @@ fn guess(x: u64) -> u64
     }
 }
 
-// The greatest whole number whose square is not above x. Whatever the guess, the two loops make it right.
-pub fn root(x: u64) -> u64
+// The greatest whole number whose square is not above x, from a guess near it. Whatever the guess, the two loops make it right.
+pub fn root_near(x: u64, near: u64) -> u64
     ensures { λ r. ⌜ IsRoot x r ⌝ }
     ensures { λ r. ⌜ r ≡ rootOf x ⌝ }
 {
-    let mut r = better(x, better(x, better(x, guess(x))));
+    let mut r = better(x, capped(near));
     while x < r * r {
         r = r - 1;
     }
@@ -155,4 +155,12 @@ pub fn root(x: u64) -> u64
         r = r + 1;
     }
     r
+}
+
+// The greatest whole number whose square is not above x.
+pub fn root(x: u64) -> u64
+    ensures { λ r. ⌜ IsRoot x r ⌝ }
+    ensures { λ r. ⌜ r ≡ rootOf x ⌝ }
+{
+    root_near(x, better(x, better(x, guess(x))))
 }

@@ -113,12 +113,25 @@ fn argument_of(elements: Elements) -> Angle
     perihelion.minus(node).to_angle()
 }
 
-// Step 4: the minor half-axis of an ellipse of half-axis 1.
+// A guess of the minor half-axis by two terms of a series: within 15 parts in a million up to the eccentricity of Pluto. Only
+// speed depends on it.
+fn minor_guess(e: u64) -> u64
+    requires { ⌜ e ≤ 90000000 ⌝ }
+{
+    let w = e * e / 10_000_000;
+    1_000_000_000 - w / 2 - w * w / 8_000_000_000
+}
+
+// Step 4: the minor half-axis of an ellipse of half-axis 1. Long ellipses are far from the guess and take the general root.
 fn minor_axis(e: u64) -> i64
     requires { ⌜ e ≤ 90000000 ⌝ }
     ensures { λ r. ⌜ r ≡ minorOf (pos e) ⌝ }
 {
-    integers::root(1_000_000_000_000_000_000 - 100 * e * e) as i64
+    let x = 1_000_000_000_000_000_000 - 100 * e * e;
+    if e < 30_000_000 {
+        return integers::root_near(x, minor_guess(e)) as i64;
+    }
+    integers::root(x) as i64
 }
 
 // Step 4: toward the perihelion.
