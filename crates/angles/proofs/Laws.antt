@@ -9,6 +9,7 @@ use lib.Dec.{leb}
 use lib.IntN.{ℤ, pos, negsuc, negℤ, natAbs, subℕ, _+ℤ_, _-ℤ_, _*ℤ_, negℤ-negℤ, +ℤ-comm}
 use borrow.Author.Tests.{le-leb, lt-leb}
 use Rattle.integers.specs.Range.{Within, apart}
+use Rattle.integers.specs.Sign.{choose}
 use Rattle.integers.proofs.Ring.{sub-ge, sub-lt, sub-shift, neg-is, abs-sub, abs-neg}
 use Rattle.angles.specs.Unit.{oneTurn}
 use Rattle.angles.specs.Sine.{halfSine, withSignOf, sineOf, cosineOf}
@@ -16,10 +17,6 @@ use Rattle.angles.proofs.Steps.{half-top, half-zero, half-mirror, half-
 use Rattle.angles.proofs.Turns.{turn, turn-below, turn-add, turn-neg, one-turn-first, one-turn-second, one-turn-again, one-turn-sum, one-turn-turns}
 
 -- ---- the sine over a turn with no sign
-abbrev pub choose : Bool → ℤ → ℤ → ℤ
-choose true x y = x
-choose false x y = y
-
 unfoldable pub turnSine : ℕ → ℤ
 turnSine s = choose (leb s 180000000) (pos (halfSine s)) (negℤ (pos (halfSine (s - 180000000))))
 

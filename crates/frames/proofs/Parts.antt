@@ -16,9 +16,6 @@ use Rattle.frames.specs.Vector.{at, rowAt, dotOf, applied, columnOf, way
 use Rattle.frames.specs.Range.{PartsWithin, DotFits, TurnFits}
 
 -- ---- the parts of a vector
-pub read-within : {z : ℤ} {n : ℕ} → Within n z → T (ltb n (2 ^ 63)) → Within n (read z)
-read-within {n = n} w t = subst (Within n) (sym (known w t .is)) w
-
 none : {n : ℕ} (i : ℕ) → Within n (at [] i)
 none i = record { within = zero-le }
 

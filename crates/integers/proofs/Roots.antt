@@ -28,7 +28,7 @@ root-only x r s a b =
     let k = a .greatest s (b .square) in
     omega arith
 
-double : (k : ℕ) → 2 ^ suc k ≡ 2 ^ k + 2 ^ k
+pub double : (k : ℕ) → 2 ^ suc k ≡ 2 ^ k + 2 ^ k
 double k = rw (pow-suc 2 k) (omega arith)
 
 from-is : (k r x : ℕ) → r * r ≤ x → x < (r + 2 ^ k) * (r + 2 ^ k) → IsRoot x (rootFrom k r x)

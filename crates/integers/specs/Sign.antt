@@ -17,6 +17,7 @@ same (pos a) (negsuc b) = false
 same (negsuc a) (pos b) = false
 same (negsuc a) (negsuc b) = eqb a b
 
+-- a where the test is passed, and else b
 abbrev pub choose : Bool → ℤ → ℤ → ℤ
 choose true a b = a
 choose false a b = b

@@ -3,7 +3,6 @@
 use mathlib.Core.Path.{_≡_, refl, subst, sym, ap, _∙_}
 use mathlib.Core.Bool.{Bool, true, false}
 use Prim.Native.Nat.{ℕ, zero, suc, _+_, _-_, _*_, _/_, _^_, _≤_, _<_}
-use native.Mathlib.Nat.{pow-suc}
 use native.Mathlib.Decide.{decLt}
 use native.Mathlib.Omega.{arith}
 use lib.Dec.{T, leb}
@@ -11,26 +10,21 @@ use lib.IntN.{ℤ, pos, negsuc, subℕ, _+ℤ_, _*ℤ_}
 use lib.Signed.{leZ, _≤ℤ_, _<ℤ_, clashℤ}
 use borrow.Author.Tests.{leb-true, leb-false, le-leb, lt-leb}
 use Rattle.integers.specs.Range.{apart}
+use Rattle.integers.specs.Sign.{choose}
+use Rattle.integers.proofs.Roots.{double}
+use Rattle.integers.proofs.Table.{yes as yes-true, no as no-false}
 use Rattle.integers.proofs.Difference.{zarith, d-sub, d-add}
 use Rattle.integers.proofs.Ring.{sub-mono, sub-less}
 use Rattle.angles.specs.Unit.{oneTurn}
 use Rattle.angles.proofs.Turns.{one-turn-low, one-turn-high}
 use Rattle.kepler.specs.Equation.{eStar, F, errorOf, HalfTurns, Solves}
-use Rattle.kepler.specs.Eccentric.{angleAt, middle, reaches, halved, lastBelow, choose, nearerOf, eccentric}
+use Rattle.kepler.specs.Eccentric.{angleAt, middle, reaches, halved, lastBelow, nearerOf, eccentric}
 use Rattle.kepler.specs.Search.{raised, placeOf, Nearest}
 use Rattle.kepler.proofs.Rising.{Bracket, take-low, take-high, only}
 use Rattle.kepler.proofs.Raised.{raised-step, raised-zero, raised-end}
 use Rattle.kepler.proofs.Places.{F-at, scaled-at, error-at, star, star-small, rising, at-place, place-below, place-most, solves, nearest-of}
 
 -- ---- the test at a place, as one of naturals
-yes-true : (b : Bool) → T b → b ≡ true
-yes-true true t = refl
-yes-true false t = absurd t
-
-no-false : (b : Bool) → (T b → ⊥) → b ≡ false
-no-false true f = absurd (f tt)
-no-false false f = refl
-
 sub-test : (d a b : ℕ) → leZ (subℕ a d) (subℕ b d) ≡ leb a b
 sub-test d a b = go (decLt b a)
   where
@@ -70,9 +64,6 @@ module _ (es q : ℕ) (small : es ≤ 51566202) where
   lower lo hi b e =
       let g = leb-false (f (middle lo hi)) t e in
       record { order = distinct lo (middle lo hi) (b .low) g (omega arith); within = omega arith; low = b .low; high = g }
-
-  double : (k : ℕ) → 2 ^ suc k ≡ 2 ^ k + 2 ^ k
-  double k = rw (pow-suc 2 k) (omega arith)
 
   finds : (k : ℕ) (b : Bool) (lo hi : ℕ) → reaches (pos es) (angleAt q) (middle lo hi) ≡ b → In lo hi → hi ≤ lo + 2 ^ k → In (halved k b (pos es) (angleAt q) lo hi) (halved k b (pos es) (angleAt q) lo hi + 1)
   unfolding halved

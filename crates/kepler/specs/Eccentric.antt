@@ -5,6 +5,7 @@ use Prim.Native.Nat.{ℕ, zero, suc, _+_, _/_}
 use lib.Dec.{leb}
 use lib.IntN.{ℤ, pos, subℕ, _+ℤ_, _*ℤ_}
 use lib.Signed.{leZ}
+use Rattle.integers.specs.Sign.{choose}
 use Rattle.angles.specs.Unit.{oneTurn}
 use Rattle.kepler.specs.Equation.{eStar, F, errorOf}
 
@@ -28,10 +29,6 @@ halved (suc k) false es M lo hi = halved k (reaches es M (middle lo (middle lo h
 -- 29 halvings leave one place of 360,000,000
 unfoldable pub lastBelow : ℤ → ℤ → ℤ
 lastBelow es M = angleAt (halved 29 (reaches es M 180000000) es M 0 360000000)
-
-abbrev pub choose : Bool → ℤ → ℤ → ℤ
-choose true a b = a
-choose false a b = b
 
 -- the nearer of E and the next, E where they tie
 unfoldable pub nearerOf : ℤ → ℤ → ℤ → ℤ

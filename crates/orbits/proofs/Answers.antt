@@ -9,6 +9,7 @@ use lib.IntN.{ℤ, pos}
 use lib.Signed.{leZ}
 use mir.Facts.{and-yes, yes-and}
 use Rattle.integers.proofs.Number.{w-more}
+use Rattle.integers.proofs.Table.{yes, no}
 use Rattle.refusals.specs.declared.Refusal.the-variants.{NoSuchBody}
 use Rattle.dates.specs.declared.Date.{Date}
 use Rattle.dates.specs.declared.Moment.{Moment}
@@ -29,18 +30,10 @@ body-of-test body t =
     record { low = record { le = h .0 }; high = record { le = h .1 } }
 
 pub test-of-body : (body : ℤ) → IsBody body → isBody body ≡ true
-test-of-body body h = go (isBody body) (yes-and (leZ (pos 1) body) (leZ body (pos 9)) (h .low .le) (h .high .le))
-  where
-    go : (b : Bool) → T b → b ≡ true
-    go true t = refl
-    go false t = absurd t
+test-of-body body h = yes (isBody body) (yes-and (leZ (pos 1) body) (leZ body (pos 9)) (h .low .le) (h .high .le))
 
 pub test-of-none : (body : ℤ) → (IsBody body → ⊥) → isBody body ≡ false
-test-of-none body h = go (isBody body) (λ t. h (body-of-test body t))
-  where
-    go : (b : Bool) → (T b → ⊥) → b ≡ false
-    go true n = absurd (n tt)
-    go false n = refl
+test-of-none body h = no (isBody body) (λ t. h (body-of-test body t))
 
 pub two-centuries : (date : Date) (m : ℤ) → momentOf date ≡ AcceptedMinute m → TwoCenturies m
 two-centuries date m e = record { minute = w-more (of-within date m e) tt }

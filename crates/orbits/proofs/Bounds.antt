@@ -44,10 +44,13 @@ root-most x r h l = go (decLt 1000000000 r)
     go (yes d) = let q = square-mono 1000000001 r d in absurd (omega arith)
     go (no d) = omega arith
 
+pub e-squared : (e : ℕ) → e ≤ 90000000 → e * e ≤ 8100000000000000
+e-squared e h = square-mono e 90000000 h
+
 pub minor-is : (e : ℕ) → e ≤ 90000000 → minorOf (pos e) ≡ pos (rootOf (1000000000000000000 - 100 * e * e))
 unfolding minorOf
 minor-is e h =
-    let q = square-mono e 90000000 h in
+    let q = e-squared e h in
     let p : 10 * e * (10 * e) ≡ 100 * e * e = omega arith in
     let d : pos 1000000000000000000 -ℤ pos (10 * e * (10 * e)) ≡ pos (1000000000000000000 - 100 * e * e) = omega (zarith, d-minus (pos 1000000000000000000) (pos (10 * e * (10 * e)))) in
     ap (λ (z : ℤ). pos (rootOf (natAbs z))) d

@@ -7,7 +7,7 @@ use native.Mathlib.Omega.{arith}
 use Rattle.integers.specs.Root.{rootOf}
 use Rattle.integers.proofs.Number.{known}
 use Rattle.frames.specs.Vector.{at, squareOf, lengthOf}
-use Rattle.frames.proofs.Parts.{read-within}
+use Rattle.integers.proofs.Number.{w-read}
 use Rattle.frames.proofs.Lengths.{squares-small, squares-fit, length-small}
 use Rattle.frames.proofs.length.Statement.{statement}
 use Rattle.frames.proofs.length.Tie as tie
@@ -23,13 +23,13 @@ third : (c : tie.After-square3) → c .square3 .result ≡ squareOf (at (c .befo
 third c = c .square3 .ensures ∙ ap squareOf (known (c .before .before .before .before .before .before .pre .part 2) tt .is)
 
 square-requires : tie.Need-square-requires
-square-requires c κs = read-within (c .before .pre .part 0) tt
+square-requires c κs = w-read (c .before .pre .part 0) tt
 
 square-requires-2 : tie.Need-square-requires-2
-square-requires-2 c κs = read-within (c .before .before .before .pre .part 1) tt
+square-requires-2 c κs = w-read (c .before .before .before .pre .part 1) tt
 
 square-requires-3 : tie.Need-square-requires-3
-square-requires-3 c κs = read-within (c .before .before .before .before .before .pre .part 2) tt
+square-requires-3 c κs = w-read (c .before .before .before .before .before .pre .part 2) tt
 
 add-root : tie.Need-add-root
 add-root c =

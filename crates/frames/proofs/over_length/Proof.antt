@@ -14,7 +14,7 @@ use Rattle.integers.proofs.Difference.{zarith}
 use Rattle.integers.proofs.Cast.{read, back-ok, of-nat}
 use Rattle.integers.proofs.Number.{known}
 use Rattle.frames.specs.Vector.{at, overLength}
-use Rattle.frames.proofs.Parts.{read-within}
+use Rattle.integers.proofs.Number.{w-read}
 use Rattle.frames.proofs.over_length.Statement.{statement}
 use Rattle.frames.proofs.over_length.Tie as tie
 
@@ -36,13 +36,13 @@ module _ (c : tie.Else1) where
   above = let h = not-zero in subst (λ (z : ℤ). pos 0 <ℤ z) (sym cast-is) (omega (zarith, h))
 
 part-over-requires : tie.Need-part-over-requires
-part-over-requires c κs = let s = c .before in (read-within (s .before .pre .1 .part 0) tt, above s)
+part-over-requires c κs = let s = c .before in (w-read (s .before .pre .1 .part 0) tt, above s)
 
 part-over-requires-2 : tie.Need-part-over-requires-2
-part-over-requires-2 c κs = let s = c .before .before .before in (read-within (s .before .pre .1 .part 1) tt, above s)
+part-over-requires-2 c κs = let s = c .before .before .before in (w-read (s .before .pre .1 .part 1) tt, above s)
 
 part-over-requires-3 : tie.Need-part-over-requires-3
-part-over-requires-3 c κs = let s = c .before .before .before .before .before in (read-within (s .before .pre .1 .part 2) tt, above s)
+part-over-requires-3 c κs = let s = c .before .before .before .before .before in (w-read (s .before .pre .1 .part 2) tt, above s)
 
 -- a part that a call gave is the definition's
 part-is : (s : tie.Else1) (k : ℕ) → floorDiv (read (at (s .before .args .t2) k) *ℤ pos 1000000000) (natAbs (toZ w64 (l s))) ≡ floorDiv (at (s .before .args .t2) k *ℤ pos 1000000000) (l s)

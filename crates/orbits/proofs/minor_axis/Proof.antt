@@ -8,24 +8,20 @@ use lib.IntN.{ℤ, pos, natAbs, _-ℤ_}
 use mir.Syntax.{w64}
 use mir.Val.{SFits, toZ}
 use Rattle.integers.specs.Root.{IsRoot, rootOf}
-use Rattle.integers.proofs.Roots.{square-mono}
 use Rattle.integers.proofs.Number.{of-unsigned}
 use Rattle.orbits.specs.Place.{minorOf}
-use Rattle.orbits.proofs.Bounds.{root-most, minor-is}
+use Rattle.orbits.proofs.Bounds.{root-most, e-squared, minor-is}
 use Rattle.orbits.proofs.minor_axis.Statement.{statement}
 use Rattle.orbits.proofs.minor_axis.Tie as tie
-
-squared : (c : tie.Start) → c .args .e * c .args .e ≤ 8100000000000000
-squared c = square-mono (c .args .e) 90000000 (c .pre)
 
 mul-x : tie.Need-mul-x
 mul-x c = search needs
 
 mul-x-2 : tie.Need-mul-x-2
-mul-x-2 c = omega (arith, squared c)
+mul-x-2 c = omega (arith, e-squared (c .args .e) (c .pre))
 
 sub-x : tie.Need-sub-x
-sub-x c = omega (arith, squared c)
+sub-x c = omega (arith, e-squared (c .args .e) (c .pre))
 
 minor-guess-requires : tie.Need-minor-guess-requires
 minor-guess-requires c κs = search needs

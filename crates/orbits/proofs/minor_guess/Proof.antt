@@ -4,17 +4,15 @@ use borrow.Author.Needs.{needs}
 use Prim.Native.Nat.{ℕ, _*_, _/_, _≤_}
 use native.Mathlib.Omega.{arith}
 use Rattle.integers.proofs.Roots.{square-mono}
+use Rattle.orbits.proofs.Bounds.{e-squared}
 use Rattle.orbits.proofs.minor_guess.Statement.{statement}
 use Rattle.orbits.proofs.minor_guess.Tie as tie
 
-squared : (c : tie.Start) → c .args .e * c .args .e ≤ 8100000000000000
-squared c = square-mono (c .args .e) 90000000 (c .pre)
-
 mul-w : tie.Need-mul-w
-mul-w c = omega (arith, squared c)
+mul-w c = omega (arith, e-squared (c .args .e) (c .pre))
 
 w-most : (c : tie.Start) → c .args .e * c .args .e / 10000000 ≤ 810000000
-w-most c = omega (arith, squared c)
+w-most c = omega (arith, e-squared (c .args .e) (c .pre))
 
 w-squared : (c : tie.Start) → (c .args .e * c .args .e / 10000000) * (c .args .e * c .args .e / 10000000) ≤ 656100000000000000
 w-squared c = square-mono (c .args .e * c .args .e / 10000000) 810000000 (w-most c)
