@@ -65,7 +65,7 @@ static double our_places(int64_t frame)
     double sum = 0;
 
     for (int i = 0; i < CALLS; i++)
-        sum += lindenbrood_place_minutes(minutes[i], bodies[i], frame).x;
+        sum += lindenbrood_place(lindenbrood_minutes(minutes[i]), bodies[i], frame).x;
     return sum;
 }
 
@@ -129,19 +129,6 @@ static double our_sines(int64_t unused)
     return (double)sum;
 }
 
-#ifdef WITH_LENT
-int64_t greatest_sine(const int64_t *counts, size_t length);
-
-/* The same sines over one table that is lent to each call. */
-static double lent_sines(int64_t unused)
-{
-    (void)unused;
-    return (double)greatest_sine(angles, CALLS);
-}
-#else
-#define lent_sines NULL
-#endif
-
 static double plain_sines(int64_t unused)
 {
     double sum = 0;
@@ -158,7 +145,7 @@ static double our_elements(int64_t unused)
 
     (void)unused;
     for (int i = 0; i < CALLS; i++)
-        sum += (double)lindenbrood_elements_minutes(minutes[i], bodies[i]).mean_longitude;
+        sum += (double)lindenbrood_elements(lindenbrood_minutes(minutes[i]), bodies[i]).mean_longitude;
     return sum;
 }
 
@@ -179,7 +166,7 @@ static double our_rows(int64_t frame)
     double sum = 0;
 
     for (int i = 0; i < CALLS; i++) {
-        lindenbrood_row_julian(julian_dates[i], bodies[i], frame, rows, LINDENBROOD_ROW_BYTES);
+        lindenbrood_row(lindenbrood_julian(julian_dates[i]), bodies[i], frame, rows, LINDENBROOD_ROW_BYTES);
         sum += rows[21];
     }
     return sum;
@@ -225,9 +212,23 @@ static double our_sheets(int64_t frame)
     double good = 0;
 
     for (int i = 0; i < SHEETS; i++)
-        good += (double)lindenbrood_sheet_minutes(minutes[i], DAY, LINDENBROOD_MOST_ROWS, bodies[i], frame, rows,
-                                                  sizeof rows).good;
+        good += (double)lindenbrood_sheet(lindenbrood_minutes(minutes[i]), DAY, LINDENBROOD_MOST_ROWS, bodies[i], frame,
+                                          rows, sizeof rows).good;
     return good;
+}
+
+/* The rows of the same sheets, each by a call of its own. */
+static double our_single_rows(int64_t frame)
+{
+    double sum = 0;
+
+    for (int i = 0; i < SHEETS; i++) {
+        for (int k = 0; k < LINDENBROOD_MOST_ROWS; k++)
+            lindenbrood_row(lindenbrood_minutes(minutes[i] + k * DAY), bodies[i], frame,
+                            rows + k * LINDENBROOD_ROW_BYTES, LINDENBROOD_ROW_BYTES);
+        sum += rows[21];
+    }
+    return sum;
 }
 
 static double plain_sheets(int64_t frame)
@@ -262,11 +263,12 @@ static const line lines[] = {
     {"solve, e 0.9", 90000000, nine_bodies, {our_solves, plain_solves, NULL}},
     {"elements", 0, nine_bodies, {our_elements, plain_elements, NULL}},
     {"sine", 0, nine_bodies, {our_sines, plain_sines, NULL}},
-    {"sine, by a lent table", 0, nine_bodies, {lent_sines, plain_sines, NULL}},
     {"row in HAE, Julian date", LINDENBROOD_HAE, nine_bodies, {our_rows, plain_rows, NULL}},
+    /* The last two ask for the same rows, by minutes both: what they differ by is what a sheet saves. */
+    {"row in HAE, sheet's dates", LINDENBROOD_HAE, nine_bodies, {our_single_rows, plain_sheets, NULL}},
     {"row of a 400-row sheet", LINDENBROOD_HAE, nine_bodies, {our_sheets, plain_sheets, NULL}},
 };
-enum { LINES = sizeof lines / sizeof *lines };
+enum { LINES = sizeof lines / sizeof *lines, SINGLE_ROW = LINES - 2, SHEET_ROW = LINES - 1 };
 
 static double now(void)
 {
@@ -314,7 +316,8 @@ int main(void)
 
     printf("%-26s %8s %11s %8s %11s %8s\n", "nanoseconds", "ours", "plain C", "ratio", "eraPlan94", "ratio");
     for (int i = 0; i < LINES; i++)
-        if (lines[i].batches[0] != NULL)
-            print_line(lines[i].what, least[i]);
+        print_line(lines[i].what, least[i]);
+    printf("%-26s %8.1f  the sine table's build, and whatever else a sheet does once and each single row anew\n",
+           "their difference", least[SINGLE_ROW][0] - least[SHEET_ROW][0]);
     return 0;
 }

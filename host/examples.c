@@ -7,7 +7,9 @@
 
 static void date(double julian)
 {
-    printf("JD %.1f: status %" PRId64 "\n", julian, lindenbrood_counts_julian(julian, 4, 1).status);
+    lindenbrood_vector_answer v = lindenbrood_counts(lindenbrood_julian(julian), 4, 1);
+
+    printf("JD %.1f: status %" PRId64 "\n", julian, v.status);
 }
 
 static void circle(int64_t mean)
@@ -25,12 +27,13 @@ static void vector(const char *what, lindenbrood_vector_answer v)
 int main(void)
 {
     static const int64_t means[] = {0, 1, -1, 12345678, 179999999, -180000000};
+    lindenbrood_date epoch = lindenbrood_minutes(0);
 
     date(2469808.0);
     for (size_t i = 0; i < sizeof means / sizeof means[0]; i++)
         circle(means[i]);
     vector("RTN at 0", lindenbrood_to_rtn(0, 0, 0, 10000000, 0, 0));
-    vector("a part of 500000000", lindenbrood_turn_minutes(0, 1, 1, 500000000, 0, 0));
-    vector("a part of 500000001", lindenbrood_turn_minutes(0, 1, 1, 500000001, 0, 0));
+    vector("a part of 500000000", lindenbrood_turn(epoch, 1, 1, 500000000, 0, 0));
+    vector("a part of 500000001", lindenbrood_turn(epoch, 1, 1, 500000001, 0, 0));
     return 0;
 }

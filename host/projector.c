@@ -70,8 +70,8 @@ static void show(const request *asked, uint8_t *row, size_t len)
     printf("JD %.6f body %" PRId64 " frame %" PRId64 ": ", asked->date, asked->body,
            asked->frame);
 
-    int64_t status =
-        lindenbrood_row_julian(asked->date, asked->body, asked->frame, row, len);
+    int64_t status = lindenbrood_row(lindenbrood_julian(asked->date), asked->body,
+                                     asked->frame, row, len);
     if (status == LINDENBROOD_SHORT_BUFFER) {
         dark(status); /* the only status after which the bytes are not new */
         return;

@@ -25,7 +25,7 @@ extern const size_t hard_integer_count;
 
 /* Julian dates: not finite, denormal, huge, zeros, and some that are taken. */
 typedef struct {
-    double date;
+    double julian;
     int64_t status; /* 0, 1 or 2 */
 } hard_date;
 extern const hard_date hard_dates[];
@@ -76,5 +76,6 @@ void test_places(void);
 void test_vectors(void);
 void test_rows(void);
 void test_sheets(void);
+void test_forms(void);
 
 #endif

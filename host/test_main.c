@@ -34,6 +34,7 @@ int main(void)
     test_vectors();
     test_rows();
     test_sheets();
+    test_forms();
     printf("host tests: %ld checks, %ld failed\n", checks, failed);
     return failed == 0 ? 0 : 1;
 }

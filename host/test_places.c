@@ -28,7 +28,7 @@ static void known_places(void)
 {
     for (size_t i = 0; i < sizeof known / sizeof *known; i++) {
         const int64_t *k = known[i];
-        lindenbrood_vector_answer v = lindenbrood_counts_minutes(k[0], k[1], k[2]);
+        lindenbrood_vector_answer v = lindenbrood_counts(lindenbrood_minutes(k[0]), k[1], k[2]);
 
         CHECK(v.status == 0 && v.x == k[3] && v.y == k[4] && v.z == k[5],
               "body %" PRId64 ", frame %" PRId64 ", minute %" PRId64, k[1], k[2], k[0]);
@@ -46,8 +46,9 @@ static void place(int64_t minutes, int64_t body, int64_t frame)
 {
     int64_t wanted = first_refusal(minutes_status(minutes),
                                    first_refusal(body_status(body), frame_status(frame)));
-    lindenbrood_vector_answer c = lindenbrood_counts_minutes(minutes, body, frame);
-    lindenbrood_place_answer p = lindenbrood_place_minutes(minutes, body, frame);
+    lindenbrood_date date = lindenbrood_minutes(minutes);
+    lindenbrood_vector_answer c = lindenbrood_counts(date, body, frame);
+    lindenbrood_place_answer p = lindenbrood_place(date, body, frame);
 
     CHECK(c.status == wanted && p.status == wanted,
           "minute %" PRId64 " body %" PRId64 " frame %" PRId64, minutes, body, frame);
@@ -60,8 +61,9 @@ static void place(int64_t minutes, int64_t body, int64_t frame)
 static void elements(int64_t minutes, int64_t body)
 {
     int64_t wanted = first_refusal(minutes_status(minutes), body_status(body));
-    lindenbrood_elements_answer e = lindenbrood_elements_minutes(minutes, body);
-    lindenbrood_angle_answer m = lindenbrood_mean_anomaly_minutes(minutes, body);
+    lindenbrood_date date = lindenbrood_minutes(minutes);
+    lindenbrood_elements_answer e = lindenbrood_elements(date, body);
+    lindenbrood_angle_answer m = lindenbrood_mean_anomaly(date, body);
 
     CHECK(e.status == wanted && m.status == wanted,
           "minute %" PRId64 " body %" PRId64, minutes, body);
@@ -97,19 +99,17 @@ static void order_on_julian_dates(void)
 {
     for (size_t i = 0; i < hard_date_count; i++) {
         const hard_date *d = &hard_dates[i];
+        lindenbrood_date date = lindenbrood_julian(d->julian);
+        int64_t with_body = first_refusal(d->status, 3);
+        int64_t with_frame = first_refusal(d->status, 4);
 
-        CHECK(lindenbrood_counts_julian(d->date, 0, 0).status
-                  == first_refusal(d->status, 3), "JD %a", d->date);
-        CHECK(lindenbrood_place_julian(d->date, 0, 0).status
-                  == first_refusal(d->status, 3), "JD %a", d->date);
-        CHECK(lindenbrood_counts_julian(d->date, 9, 0).status
-                  == first_refusal(d->status, 4), "JD %a", d->date);
-        CHECK(lindenbrood_place_julian(d->date, 9, 0).status
-                  == first_refusal(d->status, 4), "JD %a", d->date);
-        CHECK(lindenbrood_elements_julian(d->date, 10).status
-                  == first_refusal(d->status, 3), "JD %a", d->date);
-        CHECK(lindenbrood_mean_anomaly_julian(d->date, INT64_MIN).status
-                  == first_refusal(d->status, 3), "JD %a", d->date);
+        CHECK(lindenbrood_counts(date, 0, 0).status == with_body, "JD %a", d->julian);
+        CHECK(lindenbrood_place(date, 0, 0).status == with_body, "JD %a", d->julian);
+        CHECK(lindenbrood_counts(date, 9, 0).status == with_frame, "JD %a", d->julian);
+        CHECK(lindenbrood_place(date, 9, 0).status == with_frame, "JD %a", d->julian);
+        CHECK(lindenbrood_elements(date, 10).status == with_body, "JD %a", d->julian);
+        CHECK(lindenbrood_mean_anomaly(date, INT64_MIN).status == with_body, "JD %a",
+              d->julian);
     }
 }
 

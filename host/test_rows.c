@@ -6,46 +6,44 @@
 
 enum { ROW = LINDENBROOD_ROW_BYTES };
 
-/* One question, asked by minutes or by Julian date. */
+/* What a row is asked for. */
 typedef struct {
-    bool by_julian;
-    double julian;
-    int64_t minutes, body, frame;
+    lindenbrood_date date; /* form, Julian date, minutes */
+    int64_t body, frame;
     int64_t status; /* wanted, in bytes enough */
 } question;
 
-/* A good one, each refusal, and pairs in which the first of two is given. */
+/* A good one, each refusal, and pairs in which the first of two is given.  The
+ * member that a form does not name would be answered otherwise. */
 static const question questions[] = {
-    {false, 0, 0, 4, 1, 0},
-    {false, 0, -105189840, 9, 5, 0},
-    {false, 0, 26298000, 1, 4, 0},
-    {true, 2451545.015625, 0, 3, 2, 0},
-    {true, NAN, 0, 4, 1, 1},
-    {true, INFINITY, 0, 4, 1, 1},
-    {true, -INFINITY, 0, 4, 1, 1},
-    {true, NAN, 0, 0, 0, 1},
-    {true, 1e308, 0, 4, 1, 2},
-    {true, -1e308, 0, 10, 6, 2},
-    {true, 5e-324, 0, 4, 1, 2},
-    {true, -0.0, 0, 4, 1, 2},
-    {true, 2469808.0, 0, 4, 1, 2},
-    {false, 0, 26298001, 4, 1, 2},
-    {false, 0, -105189841, 0, 0, 2},
-    {false, 0, INT64_MIN, 4, 1, 2},
-    {false, 0, INT64_MAX, 4, 1, 2},
-    {false, 0, 0, 0, 1, 3},
-    {false, 0, 0, 10, 6, 3},
-    {true, 2451545.0, 0, INT64_MIN, INT64_MAX, 3},
-    {false, 0, 0, 4, 0, 4},
-    {true, 2451545.0, 0, 4, 6, 4},
+    {{1, NAN, 0}, 4, 1, 0},
+    {{2, 2469808.0, -105189840}, 9, 5, 0},
+    {{INT64_MIN, 2451545.0, 26298000}, 1, 4, 0},
+    {{0, 2451545.015625, INT64_MIN}, 3, 2, 0},
+    {{0, NAN, 0}, 4, 1, 1},
+    {{0, INFINITY, 26298001}, 4, 1, 1},
+    {{0, -INFINITY, 0}, 4, 1, 1},
+    {{0, NAN, INT64_MAX}, 0, 0, 1},
+    {{0, 1e308, 0}, 4, 1, 2},
+    {{0, -1e308, 0}, 10, 6, 2},
+    {{0, 5e-324, 0}, 4, 1, 2},
+    {{0, -0.0, 0}, 4, 1, 2},
+    {{0, 2469808.0, 0}, 4, 1, 2},
+    {{1, 2451545.0, 26298001}, 4, 1, 2},
+    {{-1, NAN, -105189841}, 0, 0, 2},
+    {{1, 2451545.0, INT64_MIN}, 4, 1, 2},
+    {{1, INFINITY, INT64_MAX}, 4, 1, 2},
+    {{1, NAN, 0}, 0, 1, 3},
+    {{INT64_MAX, 1e308, 0}, 10, 6, 3},
+    {{0, 2451545.0, 26298001}, INT64_MIN, INT64_MAX, 3},
+    {{1, -INFINITY, 0}, 4, 0, 4},
+    {{0, 2451545.0, INT64_MIN}, 4, 6, 4},
 };
 static const size_t question_count = sizeof questions / sizeof *questions;
 
 static int64_t ask(const question *q, uint8_t *row, size_t len)
 {
-    if (q->by_julian)
-        return lindenbrood_row_julian(q->julian, q->body, q->frame, row, len);
-    return lindenbrood_row_minutes(q->minutes, q->body, q->frame, row, len);
+    return lindenbrood_row(q->date, q->body, q->frame, row, len);
 }
 
 /* The bytes that the question deserves, its place taken from the counts. */
@@ -55,10 +53,10 @@ static void wanted_bytes(const question *q, uint8_t row[ROW])
         refused_bytes(q->status, row);
         return;
     }
+    /* The one good Julian date is minute 23. */
+    int64_t minutes = q->date.form == 0 ? 23 : q->date.minutes;
     lindenbrood_vector_answer v =
-        q->by_julian ? lindenbrood_counts_julian(q->julian, q->body, q->frame)
-                     : lindenbrood_counts_minutes(q->minutes, q->body, q->frame);
-    int64_t minutes = q->by_julian ? 23 : q->minutes; /* the one good Julian date */
+        lindenbrood_counts(lindenbrood_minutes(minutes), q->body, q->frame);
     lindenbrood_row_answer fields = {0, 0, q->body, q->frame, minutes, v.x, v.y, v.z};
 
     row_bytes(&fields, row);
@@ -129,12 +127,13 @@ static void hard_questions(void)
 {
     for (size_t i = 0; i < hard_integer_count; i++) {
         int64_t h = hard_integers[i];
+        int64_t first = first_refusal(minutes_status(h),
+                                      first_refusal(body_status(h), frame_status(h)));
         const question asked[] = {
-            {false, 0, h, 4, 1, minutes_status(h)},
-            {false, 0, 0, h, 1, body_status(h)},
-            {false, 0, 0, 4, h, frame_status(h)},
-            {false, 0, h, h, h, first_refusal(minutes_status(h),
-                                    first_refusal(body_status(h), frame_status(h)))},
+            {lindenbrood_minutes(h), 4, 1, minutes_status(h)},
+            {lindenbrood_minutes(0), h, 1, body_status(h)},
+            {lindenbrood_minutes(0), 4, h, frame_status(h)},
+            {lindenbrood_minutes(h), h, h, first},
         };
 
         for (size_t k = 0; k < sizeof asked / sizeof *asked; k++) {
@@ -146,10 +145,11 @@ static void hard_questions(void)
         }
     }
     for (size_t i = 0; i < hard_date_count; i++) {
+        const hard_date *d = &hard_dates[i];
         uint8_t row[ROW];
-        int64_t status = lindenbrood_row_julian(hard_dates[i].date, 9, 5, row, ROW);
+        int64_t status = lindenbrood_row(lindenbrood_julian(d->julian), 9, 5, row, ROW);
 
-        CHECK(status == hard_dates[i].status && row[3] == status, "JD %a", hard_dates[i].date);
+        CHECK(status == d->status && row[3] == status, "JD %a", d->julian);
     }
 }
 
@@ -281,8 +281,8 @@ static void short_readings(const lindenbrood_row_answer *fields)
 /* With no byte lent the address is not used. */
 static void nothing_lent(void)
 {
-    CHECK(lindenbrood_row_minutes(0, 4, 1, NULL, 0) == 8, "row");
-    CHECK(lindenbrood_row_julian(NAN, 0, 0, NULL, 0) == 8, "row");
+    CHECK(lindenbrood_row(lindenbrood_minutes(0), 4, 1, NULL, 0) == 8, "row");
+    CHECK(lindenbrood_row(lindenbrood_julian(NAN), 0, 0, NULL, 0) == 8, "row");
     CHECK(lindenbrood_write_row(0, 4, 1, 0, 0, 0, 0, NULL, 0) == 8, "write");
     CHECK(lindenbrood_read_row(NULL, 0).status == 9, "read");
 }

@@ -16,7 +16,8 @@ static void turn(int64_t minutes, int64_t from, int64_t to, int64_t x, int64_t y
     int64_t frames = first_refusal(frame_status(from), frame_status(to));
     int64_t parts = in_reach(x) && in_reach(y) && in_reach(z) ? 0 : 5;
     int64_t wanted = first_refusal(minutes_status(minutes), first_refusal(frames, parts));
-    lindenbrood_vector_answer v = lindenbrood_turn_minutes(minutes, from, to, x, y, z);
+    lindenbrood_vector_answer v =
+        lindenbrood_turn(lindenbrood_minutes(minutes), from, to, x, y, z);
 
     CHECK(v.status == wanted, "minute %" PRId64 ", %" PRId64 " to %" PRId64, minutes, from, to);
     CHECK(wanted == 0 || zeros(&v), "minute %" PRId64 ", %" PRId64 " to %" PRId64,
@@ -67,13 +68,13 @@ static void dates_come_first(void)
         for (int64_t from = 0; from <= 6; from++)
             for (int64_t to = 0; to <= 6; to++) {
                 int64_t frames = first_refusal(frame_status(from), frame_status(to));
-                lindenbrood_vector_answer v = lindenbrood_turn_julian(
-                    hard_dates[i].date, from, to, 0, 0, INT64_MIN);
+                lindenbrood_vector_answer v = lindenbrood_turn(
+                    lindenbrood_julian(hard_dates[i].julian), from, to, 0, 0, INT64_MIN);
                 int64_t wanted = first_refusal(hard_dates[i].status,
                                                first_refusal(frames, 5));
 
                 CHECK(v.status == wanted && zeros(&v), "JD %a, %" PRId64 " to %" PRId64,
-                      hard_dates[i].date, from, to);
+                      hard_dates[i].julian, from, to);
             }
 }
 
@@ -81,14 +82,14 @@ static void dates_come_first(void)
 static void there_and_back(void)
 {
     for (int i = 0; i < 5000; i++) {
-        int64_t minute = chance_between(LINDENBROOD_FIRST_MINUTE, LINDENBROOD_LAST_MINUTE);
+        lindenbrood_date date = lindenbrood_minutes(
+            chance_between(LINDENBROOD_FIRST_MINUTE, LINDENBROOD_LAST_MINUTE));
         int64_t frame = chance_between(2, 5);
         int64_t x = chance_between(-250000000, 250000000);
         int64_t y = chance_between(-250000000, 250000000);
         int64_t z = chance_between(-250000000, 250000000);
-        lindenbrood_vector_answer v = lindenbrood_turn_minutes(minute, 1, frame, x, y, z);
-        lindenbrood_vector_answer w =
-            lindenbrood_turn_minutes(minute, frame, 1, v.x, v.y, v.z);
+        lindenbrood_vector_answer v = lindenbrood_turn(date, 1, frame, x, y, z);
+        lindenbrood_vector_answer w = lindenbrood_turn(date, frame, 1, v.x, v.y, v.z);
 
         CHECK(v.status == 0 && w.status == 0, "frame %" PRId64, frame);
         CHECK(-2000 < w.x - x && w.x - x < 2000 && -2000 < w.y - y && w.y - y < 2000

@@ -25,11 +25,17 @@
  *
  * DATES
  *
- * A call on a date comes twice: _julian takes a Julian date as a double,
- * _minutes takes whole minutes.  A Julian date d becomes the minute
- * floor((d - 2451545) * 1440 + 1/2), without any rounding error, before its
- * interval is tested.  The interval runs from minute -105189840
- * (JD 2378496.5) to minute 26298000 (JD 2469807.5), both accepted.
+ * A call on a date takes it as its first argument, a lindenbrood_date by value.
+ * Where its form is 0 the date is the Julian date, a double; with any other
+ * form, a negative one too, it is the whole minutes.  The member that the form
+ * does not name is ignored, whatever it holds.  lindenbrood_julian and
+ * lindenbrood_minutes make a date of either kind.
+ *
+ * A Julian date d becomes the minute floor((d - 2451545) * 1440 + 1/2),
+ * without any rounding error, before its interval is tested.  The interval
+ * runs from minute -105189840 (JD 2378496.5) to minute 26298000
+ * (JD 2469807.5), both accepted.  Refusal 2 speaks of that minute and not of
+ * the Julian date: JD 2469807.5003 rounds to the last minute and is accepted.
  *
  *
  * BODIES
@@ -56,8 +62,9 @@
  *
  *   no.  given exactly when                                left behind
  *    0   the call is answered                              the answer
- *    1   the Julian date is not finite                     zeros, or a refused row
- *    2   the minutes are outside the interval              zeros, or a refused row
+ *    1   the date has form 0 and a Julian date that is     zeros, or a refused row
+ *        not finite
+ *    2   the date's minute is outside the interval         zeros, or a refused row
  *    3   the body is not 1 to 9                            zeros, or a refused row
  *    4   a frame is not 1 to 5                             zeros, or a refused row
  *    5   a part of a given vector or place is beyond       zeros
@@ -74,9 +81,9 @@
  * Where several apply only the first is given: 10 comes first, then 8, then
  * the others by number.  Only 0 to 4 stand in rows.
  *
- * Every integer argument may have any value: what is out of range is refused
- * by its number, and nothing overflows.  L is the floor of the square root of
- * the sum of the squares.
+ * Every number given may have any value, each member of a date too: what is
+ * out of range is refused by its number, and nothing overflows.  L is the floor
+ * of the square root of the sum of the squares.
  *
  *
  * LENT BYTES
@@ -143,6 +150,13 @@ enum {
     LINDENBROOD_MOST_STEP = 1000000        /* minutes */
 };
 
+/* A date. */
+typedef struct {
+    int64_t form;    /* 0: the Julian date; any other: the minutes */
+    double julian;   /* Julian date, ephemeris time; ignored unless form is 0 */
+    int64_t minutes; /* from JD 2451545.0; ignored where form is 0 */
+} lindenbrood_date;
+
 /* An angle. */
 typedef struct {
     int64_t status; /* 0, or the refusal */
@@ -195,6 +209,40 @@ typedef struct {
 } lindenbrood_row_answer;
 
 /* ------------------------------------------------------------------------
+ * A date made
+ * ------------------------------------------------------------------------ */
+
+/*
+ * lindenbrood_julian, lindenbrood_minutes
+ *
+ * A date from a Julian date, and a date from whole minutes.
+ *
+ * Given:
+ *   julian    Julian date, any double
+ *   minutes   from JD 2451545.0, any number
+ *
+ * Returned: the date, with 0 in the member that its form does not name.
+ *
+ * Note: nothing is tested or rounded here: what is not finite or outside the
+ * interval is refused by the call that takes the date.  Both stand in this
+ * header and not in the library: from a language other than C and C++, fill
+ * the struct.
+ */
+static inline lindenbrood_date lindenbrood_julian(double julian)
+{
+    lindenbrood_date date = {0, julian, 0};
+
+    return date;
+}
+
+static inline lindenbrood_date lindenbrood_minutes(int64_t minutes)
+{
+    lindenbrood_date date = {1, 0.0, minutes};
+
+    return date;
+}
+
+/* ------------------------------------------------------------------------
  * One row for the projector
  * ------------------------------------------------------------------------
  *
@@ -215,12 +263,12 @@ typedef struct {
  */
 
 /*
- * lindenbrood_row_julian, lindenbrood_row_minutes
+ * lindenbrood_row
  *
  * The place of a body on a date, written as one row into lent bytes.
  *
  * Given:
- *   date    Julian date, or minutes from JD 2451545.0
+ *   date    a Julian date or minutes, see DATES
  *   body    1 to 9
  *   frame   1 to 5
  *   len     bytes lent, at least 38
@@ -232,15 +280,13 @@ typedef struct {
  *   0           the row holds the place, with status 0
  *   8           len is under 38: no byte is written
  *   1, 2, 3, 4  a refused row with this status is written
- *   The first that applies, in this order.
+ *   The first refusal that applies, in this order.
  *
  * Note: after any status but 8 nothing that the bytes held before is left in
  * the first 38.  After 8 they still hold what they held: do not draw them.
  */
-int64_t lindenbrood_row_julian(double date, int64_t body, int64_t frame,
-                               uint8_t *row, size_t len);
-int64_t lindenbrood_row_minutes(int64_t date, int64_t body, int64_t frame,
-                                uint8_t *row, size_t len);
+int64_t lindenbrood_row(lindenbrood_date date, int64_t body, int64_t frame,
+                        uint8_t *row, size_t len);
 
 /*
  * lindenbrood_write_row
@@ -288,8 +334,8 @@ int64_t lindenbrood_write_row(int64_t status, int64_t body, int64_t frame,
  *       status 1 to 4 with 34 zeros
  *   9   the bytes are no row, or len is under 38: all fields are 0
  *
- * Note: status is 0 for a refused row too.  Only where both status and
- * row_status are 0 is there a place to draw.
+ * Note: a refused row is a row: reading it answers status 0 with row_status 1
+ * to 4.  Only where both status and row_status are 0 is there a place to draw.
  */
 lindenbrood_row_answer lindenbrood_read_row(const uint8_t *row, size_t len);
 
@@ -298,12 +344,12 @@ lindenbrood_row_answer lindenbrood_read_row(const uint8_t *row, size_t len);
  * ------------------------------------------------------------------------ */
 
 /*
- * lindenbrood_sheet_julian, lindenbrood_sheet_minutes
+ * lindenbrood_sheet
  *
  * Rows for start, start + step, start + 2 step and so on, into lent bytes.
  *
  * Given:
- *   start   Julian date, or minutes from JD 2451545.0
+ *   start   date of the first row: a Julian date or minutes, see DATES
  *   step    minutes, 1 to 1000000
  *   count   rows, 0 to 400
  *   body    1 to 9
@@ -323,31 +369,29 @@ lindenbrood_row_answer lindenbrood_read_row(const uint8_t *row, size_t len);
  *   Row k, from 0, is byte for byte the single row of its own date, so that a
  *   sheet may enter or leave the interval: rows whose date, body or frame is
  *   refused hold the refused row (status 1 to 4), and rows after them are
- *   still worked out.  The sheet's own status is 0 all the same.
- *   The sums are exact and never wrap.  With a start that is not finite every
- *   row has status 1.
+ *   still worked out.  The sheet's own status is 0 all the same: a sheet whose
+ *   rows are all refused answers status 0 and good 0.
+ *   The sums are exact and never wrap.  A Julian start becomes its minute
+ *   first, and the steps are added to that.  With a Julian start that is not
+ *   finite every row has status 1.
  *   Count 0 writes nothing and is answered with 0 and 0.
  */
-lindenbrood_sheet_answer lindenbrood_sheet_julian(double start, int64_t step,
-                                                  int64_t count, int64_t body,
-                                                  int64_t frame, uint8_t *rows,
-                                                  size_t len);
-lindenbrood_sheet_answer lindenbrood_sheet_minutes(int64_t start, int64_t step,
-                                                   int64_t count, int64_t body,
-                                                   int64_t frame, uint8_t *rows,
-                                                   size_t len);
+lindenbrood_sheet_answer lindenbrood_sheet(lindenbrood_date start, int64_t step,
+                                           int64_t count, int64_t body,
+                                           int64_t frame, uint8_t *rows,
+                                           size_t len);
 
 /* ------------------------------------------------------------------------
  * Places
  * ------------------------------------------------------------------------ */
 
 /*
- * lindenbrood_place_julian, lindenbrood_place_minutes
+ * lindenbrood_place
  *
  * The place of a body on a date, in au.
  *
  * Given:
- *   date    Julian date, or minutes from JD 2451545.0
+ *   date    a Julian date or minutes, see DATES
  *   body    1 to 9
  *   frame   1 to 5
  *
@@ -355,15 +399,13 @@ lindenbrood_sheet_answer lindenbrood_sheet_minutes(int64_t start, int64_t step,
  *   0            x, y, z are the counts below made doubles, each then divided
  *                once by 10000000
  *   1, 2, 3, 4   x, y, z are 0.0
- *   The first that applies, in this order.
+ *   The first refusal that applies, in this order.
  */
-lindenbrood_place_answer lindenbrood_place_julian(double date, int64_t body,
-                                                  int64_t frame);
-lindenbrood_place_answer lindenbrood_place_minutes(int64_t date, int64_t body,
-                                                   int64_t frame);
+lindenbrood_place_answer lindenbrood_place(lindenbrood_date date, int64_t body,
+                                           int64_t frame);
 
 /*
- * lindenbrood_counts_julian, lindenbrood_counts_minutes
+ * lindenbrood_counts
  *
  * The same place in counts of 10^-7 au.
  *
@@ -372,25 +414,23 @@ lindenbrood_place_answer lindenbrood_place_minutes(int64_t date, int64_t body,
  * Returned: the status, and x, y, z in 10^-7 au.
  *   0            the place
  *   1, 2, 3, 4   x, y, z are 0
- *   The first that applies, in this order.
+ *   The first refusal that applies, in this order.
  */
-lindenbrood_vector_answer lindenbrood_counts_julian(double date, int64_t body,
-                                                    int64_t frame);
-lindenbrood_vector_answer lindenbrood_counts_minutes(int64_t date, int64_t body,
-                                                     int64_t frame);
+lindenbrood_vector_answer lindenbrood_counts(lindenbrood_date date, int64_t body,
+                                             int64_t frame);
 
 /* ------------------------------------------------------------------------
  * Vectors turned
  * ------------------------------------------------------------------------ */
 
 /*
- * lindenbrood_turn_julian, lindenbrood_turn_minutes
+ * lindenbrood_turn
  *
  * A vector of one frame, as it is in another on a date.
  *
  * Given:
- *   date      Julian date, or minutes from JD 2451545.0; it is tested for
- *             every pair of frames, though only HEE and HEEQ move with it
+ *   date      a Julian date or minutes, see DATES; it is tested for every pair
+ *             of frames, though only HEE and HEEQ move with it
  *   from, to  frames, 1 to 5
  *   x, y, z   the vector in frame `from`, each part within +-500000000
  *             (10^-7 au, or whatever unit the vector is counted in)
@@ -398,18 +438,15 @@ lindenbrood_vector_answer lindenbrood_counts_minutes(int64_t date, int64_t body,
  * Returned: the status, and the vector in frame `to`, in the unit given.
  *   0            the vector; a frame to itself leaves it unchanged
  *   1, 2, 4, 5   x, y, z are 0
- *   The first that applies, in this order.
+ *   The first refusal that applies, in this order.
  *
  * Note: between two frames that are not HAE the vector goes by way of HAE.
  * Each turn floors, so that there and back may differ by some units.  A part
  * of the answer may be beyond 500000000 and is then refused on the way back.
  */
-lindenbrood_vector_answer lindenbrood_turn_julian(double date, int64_t from,
-                                                  int64_t to, int64_t x,
-                                                  int64_t y, int64_t z);
-lindenbrood_vector_answer lindenbrood_turn_minutes(int64_t date, int64_t from,
-                                                   int64_t to, int64_t x,
-                                                   int64_t y, int64_t z);
+lindenbrood_vector_answer lindenbrood_turn(lindenbrood_date date, int64_t from,
+                                           int64_t to, int64_t x, int64_t y,
+                                           int64_t z);
 
 /*
  * lindenbrood_to_rtn, lindenbrood_from_rtn
@@ -439,25 +476,24 @@ lindenbrood_vector_answer lindenbrood_from_rtn(int64_t rx, int64_t ry, int64_t r
  * ------------------------------------------------------------------------ */
 
 /*
- * lindenbrood_elements_julian, lindenbrood_elements_minutes
+ * lindenbrood_elements
  *
  * The six elements of a body on a date.
  *
  * Given:
- *   date    Julian date, or minutes from JD 2451545.0
+ *   date    a Julian date or minutes, see DATES
  *   body    1 to 9
  *
  * Returned: the status, and the elements, each
- * x0 + floor(rate * minutes / 52596000) in hundred-millionths.
+ * x0 + floor(rate * m / 52596000) in hundred-millionths, m being the minute.
  *   0         the elements
  *   1, 2, 3   all six are 0
- *   The first that applies, in this order.
+ *   The first refusal that applies, in this order.
  */
-lindenbrood_elements_answer lindenbrood_elements_julian(double date, int64_t body);
-lindenbrood_elements_answer lindenbrood_elements_minutes(int64_t date, int64_t body);
+lindenbrood_elements_answer lindenbrood_elements(lindenbrood_date date, int64_t body);
 
 /*
- * lindenbrood_mean_anomaly_julian, lindenbrood_mean_anomaly_minutes
+ * lindenbrood_mean_anomaly
  *
  * The mean anomaly of a body on a date.
  *
@@ -466,10 +502,9 @@ lindenbrood_elements_answer lindenbrood_elements_minutes(int64_t date, int64_t b
  * Returned: the status, and the angle in millionths of a degree.
  *   0         the mean anomaly, from -180000000 up to but without 180000000
  *   1, 2, 3   0
- *   The first that applies, in this order.
+ *   The first refusal that applies, in this order.
  */
-lindenbrood_angle_answer lindenbrood_mean_anomaly_julian(double date, int64_t body);
-lindenbrood_angle_answer lindenbrood_mean_anomaly_minutes(int64_t date, int64_t body);
+lindenbrood_angle_answer lindenbrood_mean_anomaly(lindenbrood_date date, int64_t body);
 
 /*
  * lindenbrood_eccentric_anomaly

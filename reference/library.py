@@ -1,6 +1,8 @@
 """The project's C interface through ctypes: each call answers a plain tuple."""
 
 import ctypes
+import itertools
+import math
 import operator
 import os
 
@@ -25,8 +27,32 @@ STATUS_ELEMENTS = struct_of(
 STATUS_GOOD = struct_of("status good")
 STATUS_ROW = struct_of("status row_status body frame minutes x y z")
 
-# Name without its prefix: what it answers, and its arguments.  "date" stands
-# for a call that comes twice, as _julian with a double and _minutes with a count.
+
+class Date(ctypes.Structure):
+    """lindenbrood_date: form 0 is the Julian date, any other the minutes."""
+
+    _fields_ = [("form", I64), ("julian", DOUBLE), ("minutes", I64)]
+
+
+# Forms that mean minutes, and numbers for the member that a form does not name,
+# which is ignored.  They come in a fixed order and not from the chance that makes
+# the cases, so that the cases stay what they are.  The lengths 5 and 9 are odd and
+# without a common divisor: each of two calls in turn meets every pair.
+MINUTES_FORMS = itertools.cycle((1, 2, -1, -2**63, 2**32))
+WILD_JULIANS = itertools.cycle((math.nan, 0.0, math.inf, 2451545.0, -math.inf,
+                                1e308, 5e-324, -5e-324, 2469808.0))
+WILD_MINUTES = itertools.cycle((-2**63, 0, 2**63 - 1, 26_298_000, 26_298_001))
+
+
+def date_of(date):
+    """The struct for a Python float (a Julian date) or int (minutes)."""
+    if isinstance(date, float):
+        return Date(0, date, next(WILD_MINUTES))
+    return Date(next(MINUTES_FORMS), next(WILD_JULIANS), date)
+
+
+# Name without its prefix: what it answers, and its arguments; those of a dated
+# call come after its date.
 CALLS = {
     "sine": (I64, [I64]),
     "cosine": (I64, [I64]),
@@ -63,16 +89,10 @@ class Library:
         return self.bind("lindenbrood_" + name, answer, arguments)
 
     def dated(self, name):
-        """A call on a date: a float goes to _julian, an int to _minutes."""
+        """A call on a date, which is a float or an int: see date_of."""
         answer, arguments = DATED_CALLS[name]
-        full = "lindenbrood_" + name
-        julian = self.bind(full + "_julian", answer, [DOUBLE] + arguments)
-        minutes = self.bind(full + "_minutes", answer, [I64] + arguments)
-
-        def either(date, *rest):
-            chosen = julian if isinstance(date, float) else minutes
-            return chosen(date, *rest)
-        return either
+        function = self.bind("lindenbrood_" + name, answer, [Date] + arguments)
+        return lambda date, *rest: function(date_of(date), *rest)
 
     def bind(self, full, answer, arguments):
         try:

@@ -1,24 +1,30 @@
 -- The laws of the sine at every angle: period, sin(-t) = -sin t, sin(180° - t) = sin t, its size, and neighbours that differ by at most 18.
 -- They are shown of `turnSine`, the sine over a turn with no sign, by omega, and carried to `sineOf` by one link, `sine-is`.
+use mathlib.Core.Bool.{Bool, cond}
 use mathlib.Core.Path.{_≡_, refl, sym, ap, _∙_}
-use Prim.Native.Nat.{ℕ, zero, suc, _+_, _-_, _*_, _%_, _≤_, _<_}
+use Prim.Native.Nat.{ℕ, suc, _+_, _-_, _%_, _≤_, _<_}
 use native.Mathlib.Decide.{decLt}
 use native.Mathlib.Omega.{arith}
-use mathlib.Core.Bool.{Bool, true, false}
 use lib.Dec.{leb}
 use lib.IntN.{ℤ, pos, negsuc, negℤ, natAbs, subℕ, _+ℤ_, _-ℤ_, _*ℤ_, negℤ-negℤ, +ℤ-comm}
 use borrow.Author.Tests.{le-leb, lt-leb}
+use lib.Signed.{ltZ}
 use Rattle.integers.specs.Range.{Within, apart}
-use Rattle.integers.specs.Sign.{choose}
-use Rattle.integers.proofs.Ring.{sub-ge, sub-lt, sub-shift, neg-is, abs-sub, abs-neg}
+use Rattle.integers.specs.Sign.{signed}
+use Rattle.integers.proofs.Ring.{sub-ge, sub-shift, neg-is, abs-sub, abs-neg}
 use Rattle.angles.specs.Unit.{oneTurn}
 use Rattle.angles.specs.Sine.{halfSine, withSignOf, sineOf, cosineOf}
 use Rattle.angles.proofs.Steps.{half-top, half-zero, half-mirror, half-step, half-past}
-use Rattle.angles.proofs.Turns.{turn, turn-below, turn-add, turn-neg, one-turn-first, one-turn-second, one-turn-again, one-turn-sum, one-turn-turns}
+use Rattle.angles.proofs.Turns.{turn, turn-below, turn-add, turn-neg, one-turn-first, one-turn-second, one-turn-again, one-turn-turns}
+
+-- the machine's sign before a size is the definition's
+pub by-sign : (t : ℤ) (s : ℕ) → signed (ltZ t (pos 0)) s ≡ withSignOf t s
+by-sign (pos t) s = ap (λ (b : Bool). signed b s) (lt-leb (suc t) 0 (omega arith))
+by-sign (negsuc t) s = refl
 
 -- ---- the sine over a turn with no sign
 unfoldable pub turnSine : ℕ → ℤ
-turnSine s = choose (leb s 180000000) (pos (halfSine s)) (negℤ (pos (halfSine (s - 180000000))))
+turnSine s = cond (leb s 180000000) (pos (halfSine s)) (negℤ (pos (halfSine (s - 180000000))))
 
 pub turnSine-left : (s : ℕ) → s ≤ 180000000 → turnSine s ≡ pos (halfSine s)
 unfolding turnSine
@@ -125,10 +131,6 @@ sine-of-one-turn t = ap (λ (z : ℤ). withSignOf z (halfSine (natAbs z))) (one-
 pub cosine-is : (t : ℤ) → cosineOf t ≡ sineOf (t +ℤ pos 90000000)
 unfolding cosineOf
 cosine-is t = refl
-
-pub cosine-of-one-turn : (t : ℤ) → cosineOf (oneTurn t) ≡ cosineOf t
-unfolding cosineOf sineOf
-cosine-of-one-turn t = ap (λ (z : ℤ). withSignOf z (halfSine (natAbs z))) (one-turn-sum t 90000000)
 
 -- the sine, raised by 10^9
 raised : ℕ → ℕ

@@ -1,13 +1,14 @@
 -- The squares of the sine and the cosine of any angle add up to nearly 10^18: at least 767,000,000,000 below and at most 1,300,000,000 above.
 -- Between two entries the point (sin, cos) lies on a chord from P to Q, where |P + λ(Q - P)|² = (1-λ)|P|² + λ|Q|² - λ(1-λ)|Q - P|²;
 -- the floors take less than 1 from each. Any angle folds to the first quarter.
-use mathlib.Core.Path.{_≡_, refl, sym, ap, subst₂, _∙_}
-use Prim.Native.Nat.{ℕ, zero, suc, _+_, _-_, _*_, _/_, _%_, _≤_, _<_, min}
+use mathlib.Core.Path.{_≡_, sym, ap, subst₂, _∙_}
+use Prim.Native.Nat.{ℕ, _+_, _-_, _*_, _/_, _%_, _≤_, _<_, min}
 use native.Mathlib.Omega.{arith}
 use native.Mathlib.Nat.{mul-le-mul, mul-le-mul-left, mul-zero}
 use native.Mathlib.Decide.{decLt}
-use lib.IntN.{ℤ, pos, negsuc, negℤ, natAbs, _+ℤ_}
+use lib.IntN.{ℤ, pos, natAbs, _+ℤ_}
 use Rattle.integers.proofs.Ring.{abs-neg}
+use Rattle.integers.proofs.Squares.{square-mono, mean}
 use Rattle.angles.specs.Entry.{entry}
 use Rattle.angles.specs.Sine.{between, quarterSine, halfSine, sineOf, cosineOf}
 use Rattle.angles.proofs.Facts.{Near, neighbours, Circle, circles}
@@ -15,13 +16,10 @@ use Rattle.angles.proofs.Steps.{at-most}
 use Rattle.angles.proofs.Turns.{turn, turn-below, turn-add}
 use Rattle.angles.proofs.Laws.{turnSine, turnSine-left, turnSine-right, sine-is}
 
--- what is shown of s, the size of a sine, and c, the size of the cosine
-pub record Unit (s c : ℕ) : Type 0 where
+-- what is shown of s, the size of a sine, and c, the size of the cosine: the point (s, c) lies nearly on the circle of radius 10^9
+pub record NearCircle (s c : ℕ) : Type 0 where
   pub low : 999999233000000000 ≤ s * s + c * c
   pub high : s * s + c * c ≤ 1000000001300000000
-
-square : (x y : ℕ) → x ≤ y → x * x ≤ y * y
-square x y h = mul-le-mul h h
 
 -- ---- one coordinate of a point on a chord from a to a + p, w and r parts of the way from its ends
 chord : (a p w r : ℕ) → (a * w + (a + p) * r) * (a * w + (a + p) * r) + w * r * (p * p) ≡ (w + r) * (w * (a * a) + r * ((a + p) * (a + p)))
@@ -43,26 +41,15 @@ record Squared (s x : ℕ) : Type 0 where
 squared : (s x : ℕ) → Floored s x → Squared s x
 squared s x f =
     let l = mul-le-mul (f .low) (f .low) in
-    let h = square x ((s + 1) * 100000) (omega (arith, f .high)) in
+    let h = square-mono x ((s + 1) * 100000) (omega (arith, f .high)) in
     record { low = omega arith; high = omega arith }
 
 -- w r is at most a quarter of the square of w + r
 quarter : (w r : ℕ) → w + r ≡ 100000 → w * r ≤ 2500000000
-quarter w r e = go (decLt w r)
-  where
-    apart : (x d : ℕ) → x + (x + d) ≡ 100000 → x * (x + d) ≤ 2500000000
-    apart x d f = let g = square (x + (x + d)) 100000 (omega arith) in omega arith
-
-    go : Dec (w < r) → w * r ≤ 2500000000
-    go (yes l) =
-        let f : w + (r - w) ≡ r = omega arith in
-        let g = apart w (r - w) (omega arith) in
-        rw f at g
-    go (no l) =
-        let f : r + (w - r) ≡ w = omega arith in
-        let g = apart r (w - r) (omega arith) in
-        let h = rw f at g in
-        omega arith
+quarter w r e =
+    let m = mean w r in
+    let s = ap (λ (n : ℕ). n * n) e in
+    omega arith
 
 -- ---- the point itself: the sine goes from a to a + p, the cosine from d + q back to d
 module _ (a p d q w r : ℕ) (e : w + r ≡ 100000) where
@@ -102,7 +89,7 @@ module _ (a p d q w r : ℕ) (e : w + r ≡ 100000) where
       let j = mul-le-mul (quarter w r e) hm in
       omega arith
 
-  unit : Circle a (a + p) (d + q) d → 999999998692509698 ≤ Q → Q ≤ 1000000001271150589 → p * p + q * q ≤ 3046176984852 → a + p * r / 100000 ≤ 1000000000 → d + q * w / 100000 ≤ 1000000000 → Unit (a + p * r / 100000) (d + q * w / 100000)
+  unit : Circle a (a + p) (d + q) d → 999999998692509698 ≤ Q → Q ≤ 1000000001271150589 → p * p + q * q ≤ 3046176984852 → a + p * r / 100000 ≤ 1000000000 → d + q * w / 100000 ≤ 1000000000 → NearCircle (a + p * r / 100000) (d + q * w / 100000)
   unit ends ql qh ch sl cl =
       let s : ℕ = a + p * r / 100000 in
       let c : ℕ = d + q * w / 100000 in
@@ -112,19 +99,19 @@ module _ (a p d q w r : ℕ) (e : w + r ≡ 100000) where
       let v = least 999999998692509698 3046176984852 (ends .low) ql ch in
       bounds s c sl cl (X * X) (Y * Y) (x .low) (x .high) (y .low) (y .high) u v
     where
-      bounds : (s c : ℕ) → s ≤ 1000000000 → c ≤ 1000000000 → (x y : ℕ) → s * s * 10000000000 ≤ x → x ≤ (s + 1) * (s + 1) * 10000000000 → c * c * 10000000000 ≤ y → y ≤ (c + 1) * (c + 1) * 10000000000 → x + y ≤ 10000000000 * 1000000001271150589 → 10000000000 * 999999998692509698 ≤ x + y + 2500000000 * 3046176984852 → Unit s c
+      bounds : (s c : ℕ) → s ≤ 1000000000 → c ≤ 1000000000 → (x y : ℕ) → s * s * 10000000000 ≤ x → x ≤ (s + 1) * (s + 1) * 10000000000 → c * c * 10000000000 ≤ y → y ≤ (c + 1) * (c + 1) * 10000000000 → x + y ≤ 10000000000 * 1000000001271150589 → 10000000000 * 999999998692509698 ≤ x + y + 2500000000 * 3046176984852 → NearCircle s c
       bounds s c sl cl x y xl xh yl yh u v = record { low = omega arith; high = omega arith }
 
 -- ---- an angle in the first quarter, and the rest of the quarter
 abbrev Quartered : ℕ → Type 0
-Quartered t = Unit (quarterSine t) (quarterSine (90000000 - t))
+Quartered t = NearCircle (quarterSine t) (quarterSine (90000000 - t))
 
 -- on an entry
-on-entry : (k : ℕ) → k ≤ 900 → Unit (entry k) (entry (900 - k))
+on-entry : (k : ℕ) → k ≤ 900 → NearCircle (entry k) (entry (900 - k))
 on-entry k h = let e = circles k h in record { low = omega (arith, e .low); high = omega (arith, e .high) }
 
 -- r past entry k, with w left to the next
-off-entry : (k r w : ℕ) → k < 900 → w + r ≡ 100000 → Unit (between (entry k) (entry (k + 1)) r) (between (entry (899 - k)) (entry (900 - k)) w)
+off-entry : (k r w : ℕ) → k < 900 → w + r ≡ 100000 → NearCircle (between (entry k) (entry (k + 1)) r) (between (entry (899 - k)) (entry (900 - k)) w)
 off-entry k r w h e =
     let f : 899 - k + 1 ≡ 900 - k = omega arith in
     let g : 900 - (k + 1) ≡ 899 - k = omega arith in
@@ -134,7 +121,7 @@ off-entry k r w h e =
     let z = rw g at (circles (k + 1) (omega arith)) in
     go (entry k) (entry (k + 1)) (entry (900 - k)) (entry (899 - k)) n m c (z .low) (z .high)
   where
-    go : (a b c d : ℕ) → Near a b → Near d c → Circle a b c d → 999999998692509698 ≤ b * b + d * d → b * b + d * d ≤ 1000000001271150589 → Unit (between a b r) (between d c w)
+    go : (a b c d : ℕ) → Near a b → Near d c → Circle a b c d → 999999998692509698 ≤ b * b + d * d → b * b + d * d ≤ 1000000001271150589 → NearCircle (between a b r) (between d c w)
     go a b c d n m z ql qh =
         let eb : a + (b - a) ≡ b = omega (arith, n .rises) in
         let ec : d + (c - d) ≡ c = omega (arith, m .rises) in
@@ -199,11 +186,11 @@ fold-on u h = go (decLt u 90000000) (decLt u 180000000) (decLt u 270000000)
     go (no a) (no b) (yes c) = by (u - 180000000) (u - 90000000) (u - 180000000) (180000000 - (u - 90000000)) (omega arith) (omega arith) (low (u - 180000000) (omega arith)) (high (u - 90000000) (omega arith)) (omega arith)
     go (no a) (no b) (no c) = by (u - 180000000) (u - 270000000) (180000000 - (u - 180000000)) (u - 270000000) (omega arith) (omega arith) (high (u - 180000000) (omega arith)) (low (u - 270000000) (omega arith)) (omega arith)
 
-pub squares : (t : ℤ) → Unit (natAbs (sineOf t)) (natAbs (cosineOf t))
+pub squares : (t : ℤ) → NearCircle (natAbs (sineOf t)) (natAbs (cosineOf t))
 unfolding cosineOf
 squares t =
     let b = turn-below t in
     let s : natAbs (sineOf t) ≡ quarterSine (fold (turn t)) = ap natAbs (sine-is t) ∙ sized (turn t) b in
     let c : natAbs (cosineOf t) ≡ quarterSine (90000000 - fold (turn t)) =
     ap natAbs (sine-is (t +ℤ pos 90000000) ∙ ap turnSine (turn-add t 90000000)) ∙ sized ((turn t + 90000000) % 360000000) (omega arith) ∙ ap quarterSine (fold-on (turn t) b) in
-    subst₂ Unit (sym s) (sym c) (quartered (fold (turn t)) (omega arith))
+    subst₂ NearCircle (sym s) (sym c) (quartered (fold (turn t)) (omega arith))

@@ -1,13 +1,13 @@
 -- The sine from one millionth of a degree to the next: it rises by at most 18 in the first quarter, and changes by at most 18 in the half turn.
 -- Within one tenth of a degree by the line's slope, across an entry since the line meets it there.
-use mathlib.Core.Path.{_≡_, refl, subst, sym, ap, _∙_}
-use mathlib.Core.Logic.{_⊎_, inl, inr}
-use Prim.Native.Nat.{ℕ, zero, suc, _+_, _-_, _*_, _/_, _%_, _≤_, _<_, min}
-use native.Mathlib.Nat.{mul-add, mul-one, mul-zero, mul-le-mul-left}
+use mathlib.Core.Path.{_≡_, refl, sym, ap, _∙_}
+use Prim.Native.Nat.{ℕ, _+_, _-_, _/_, _%_, _≤_, _<_, min}
+use native.Mathlib.Nat.{mul-add, mul-zero, mul-le-mul-left}
 use native.Mathlib.Decide.{decLt}
 use native.Mathlib.Omega.{arith}
-use Rattle.angles.specs.Entry.{entry, plus, minus, term, part, whole, factorial}
-use Rattle.angles.specs.Sine.{between, quarterSine, halfSine}
+use borrow.Author.Tests.{eq-eqb, ne-eqb}
+use Rattle.angles.specs.Entry.{entry, plusTerms, minusTerms, term, part, whole, factorial}
+use Rattle.angles.specs.Sine.{between, folded, quarterSine, halfSine, riseOf}
 use Rattle.angles.proofs.Facts.{Near, neighbours}
 
 -- a step up by at most 18
@@ -85,10 +85,28 @@ unfolding halfSine
 half-mirror t h = let e : min (180000000 - t) (180000000 - (180000000 - t)) ≡ min t (180000000 - t) = omega arith in rw e
 
 pub half-zero : halfSine 0 ≡ 0
-unfolding halfSine quarterSine entry plus minus term part whole factorial
+unfolding halfSine quarterSine entry plusTerms minusTerms term part whole factorial
 half-zero = refl
 
 -- past the half turn `halfSine` is 0
 pub half-past : (n : ℕ) → 180000000 ≤ n → halfSine n ≡ 0
 unfolding halfSine
 half-past n h = let e : min n (180000000 - n) ≡ min 0 (180000000 - 0) = omega arith in rw e half-zero
+
+-- ---- the table's step around an angle, by the entry before it
+pub rise-last : (t k : ℕ) → folded t / 100000 ≡ k → k ≡ 900 → riseOf t ≡ 0
+unfolding riseOf
+rise-last t k e h = rw (eq-eqb (folded t / 100000) 900 (e ∙ h))
+
+pub rise-from : (t k : ℕ) → folded t / 100000 ≡ k → (k ≡ 900 → ⊥) → riseOf t ≡ entry (k + 1) - entry k
+unfolding riseOf
+rise-from t k e n = rw (ne-eqb (folded t / 100000) 900 (λ h. n (sym e ∙ h))) (ap (λ (j : ℕ). entry (j + 1) - entry j) e)
+
+pub rise-small : (t : ℕ) → riseOf t ≤ 1745328
+rise-small t = go (decLt (folded t / 100000) 900)
+  where
+    go : Dec (folded t / 100000 < 900) → riseOf t ≤ 1745328
+    go (yes l) =
+        let n = neighbours (folded t / 100000) l in
+        rw (rise-from t (folded t / 100000) refl (λ e. omega arith)) (omega arith)
+    go (no l) = rw (rise-last t (folded t / 100000) refl (omega arith)) (omega arith)

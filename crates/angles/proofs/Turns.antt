@@ -4,11 +4,11 @@ use mathlib.Core.Path.{_≡_, refl, sym, ap, _∙_}
 use Prim.Native.Nat.{ℕ, zero, suc, _+_, _-_, _*_, _/_, _%_, _≤_, _<_}
 use native.Mathlib.Omega.{arith}
 use native.Mathlib.Decide.{decLt}
-use lib.IntN.{ℤ, pos, negsuc, negℤ, natAbs, subℕ, _+ℤ_, _-ℤ_, _*ℤ_}
+use lib.IntN.{ℤ, pos, negsuc, negℤ, subℕ, _+ℤ_, _-ℤ_, _*ℤ_}
 use lib.Signed.{_≤ℤ_, _<ℤ_}
 use Rattle.integers.specs.Range.{Within}
-use Rattle.integers.specs.Floor.{floorDiv, floorMod}
-use Rattle.integers.proofs.Difference.{up, dn, zarith, d-sub, d-add, d-minus, d-mul, d-abs, dn-zero, up-less}
+use Rattle.integers.specs.Floor.{floorMod}
+use Rattle.integers.proofs.Difference.{zarith, d-sub, d-add, d-minus, d-mul, dn-zero, up-less}
 use Rattle.integers.proofs.Ring.{sub-ge, sub-lt}
 use Rattle.integers.proofs.Floor.{mod-only, mod-shift}
 use Rattle.angles.specs.Unit.{oneTurn}

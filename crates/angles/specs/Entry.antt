@@ -20,12 +20,12 @@ unfoldable pub term : ℕ → ℕ → ℕ
 term a k = a ^ k * part ^ (17 - k) * (factorial 17 / factorial k)
 
 -- the terms with a plus, and those with a minus
-unfoldable pub plus : ℕ → ℕ
-plus a = term a 1 + term a 5 + term a 9 + term a 13 + term a 17
+unfoldable pub plusTerms : ℕ → ℕ
+plusTerms a = term a 1 + term a 5 + term a 9 + term a 13 + term a 17
 
-unfoldable pub minus : ℕ → ℕ
-minus a = term a 3 + term a 7 + term a 11 + term a 15
+unfoldable pub minusTerms : ℕ → ℕ
+minusTerms a = term a 3 + term a 7 + term a 11 + term a 15
 
 -- floor(10^9·S + 1/2)
 unfoldable pub entry : ℕ → ℕ
-entry n = (2 * 10 ^ 9 * (plus (n * 3141592653589793) - minus (n * 3141592653589793)) + whole) / (2 * whole)
+entry n = (2 * 10 ^ 9 * (plusTerms (n * 3141592653589793) - minusTerms (n * 3141592653589793)) + whole) / (2 * whole)

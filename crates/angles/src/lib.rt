@@ -1,15 +1,15 @@
 // The two units of angles, one turn, and the sine and cosine of any angle by document 01's table of 901 entries.
-// The table is a constant, and each mention of a constant builds it anew: an entry point mentions it once and lends it down.
+// The table is a constant, and each mention of a constant builds it anew: an entry point asks for it once and lends it down.
 ghost use mathlib.Core.Path.{_≡_};
-ghost use Prim.Native.Nat.{_≤_, _<_, _+_, _-_, min};
+ghost use Prim.Native.Nat.{_≤_, _<_, _+_, _-_};
 ghost use lib.IntN.{pos, natAbs, _+ℤ_, _-ℤ_};
 ghost use Rattle.integers.specs.Range.{Within};
 ghost use Rattle.angles.specs.Unit.{millionths, hundredMillionths, inMillionths, oneTurn};
 ghost use Rattle.angles.specs.Entry.{entry};
-ghost use Rattle.angles.specs.Sines.{sines};
-ghost use Rattle.angles.specs.Sine.{quarterSine, halfSine, withSignOf, sineOf, cosineOf};
+ghost use Rattle.angles.specs.Sines.{sineEntries};
+ghost use Rattle.angles.specs.Sine.{folded, quarterSine, halfSine, withSignOf, riseOf, sineOf, cosineOf};
 
-pub mod table;
+mod table;
 
 // An angle in millionths of a degree. Its count is private to this crate, so that only named functions convert it.
 pub struct Angle(i64);
@@ -52,7 +52,7 @@ impl Element {
     }
 
     // The difference of two elements, as of two longitudes.
-    pub fn minus(self, other: Element) -> Element
+    pub fn difference(self, other: Element) -> Element
         requires { ⌜ Within 4000000000000000000 (hundredMillionths self) ⌝ }
         requires { ⌜ Within 4000000000000000000 (hundredMillionths other) ⌝ }
         ensures { λ r. ⌜ hundredMillionths r ≡ hundredMillionths self -ℤ hundredMillionths other ⌝ }
@@ -92,103 +92,85 @@ fn quarter_on(t: i64) -> i64
 // numbers instead of guessing a branch.
 fn folded(t: u64) -> u64
     requires { ⌜ t ≤ 180000000 ⌝ }
-    ensures { λ r. ⌜ r ≡ min t (180000000 - t) ⌝ }
+    ensures { λ r. ⌜ r ≡ folded t ⌝ }
 {
     if t < 90_000_000 { t } else { 180_000_000 - t }
 }
 
-// The size s with the sign of t.
-fn with_sign_of(t: i64, s: u64) -> i64
-    requires { ⌜ s ≤ 1000000000 ⌝ }
-    ensures { λ r. ⌜ r ≡ withSignOf t s ⌝ }
+// The table, for an entry point to lend.
+pub fn sines() -> [u32; 901]
+    ensures { λ r. ⌜ r ≡ sineEntries ⌝ }
 {
-    integers::with_sign(t < 0, s)
+    table::SINES
 }
 
 // Entry n of the lent table.
-pub fn entry_by(table: &[u32; 901], n: usize) -> u64
-    requires { ⌜ now table ≡ sines ⌝ }
+pub fn entry(sines: &[u32; 901], n: usize) -> u64
+    requires { ⌜ now sines ≡ sineEntries ⌝ }
     requires { ⌜ n ≤ 900 ⌝ }
     ensures { λ r. ⌜ r ≡ entry n ⌝ }
 {
-    table[n] as u64
+    sines[n] as u64
 }
 
 // The sine of t from 0 to 90 degrees, on the line between two entries.
-pub fn quarter_sine_by(table: &[u32; 901], t: u64) -> u64
-    requires { ⌜ now table ≡ sines ⌝ }
+pub fn quarter_sine(sines: &[u32; 901], t: u64) -> u64
+    requires { ⌜ now sines ≡ sineEntries ⌝ }
     requires { ⌜ t ≤ 90000000 ⌝ }
     ensures { λ r. ⌜ r ≡ quarterSine t ⌝ }
 {
     let k = (t / 100_000) as usize;
     if k == 900 {
-        return entry_by(table, 900);
+        return entry(sines, 900);
     }
-    let low = entry_by(table, k);
-    let high = entry_by(table, k + 1);
+    let low = entry(sines, k);
+    let high = entry(sines, k + 1);
     low + (high - low) * (t % 100_000) / 100_000
 }
 
 // The sine of t from 0 to 180 degrees.
-pub fn half_sine_by(table: &[u32; 901], t: u64) -> u64
-    requires { ⌜ now table ≡ sines ⌝ }
+pub fn half_sine(sines: &[u32; 901], t: u64) -> u64
+    requires { ⌜ now sines ≡ sineEntries ⌝ }
     requires { ⌜ t ≤ 180000000 ⌝ }
     ensures { λ r. ⌜ r ≡ halfSine t ⌝ }
 {
-    quarter_sine_by(table, folded(t))
+    quarter_sine(sines, folded(t))
 }
 
-// By how much the sine changes in the tenth of a degree around t, t from 0 to 180 degrees. Only guesses go by it, so it
-// promises no more than its range.
-pub fn rise_by(table: &[u32; 901], t: u64) -> u64
-    requires { ⌜ now table ≡ sines ⌝ }
+// By how much the table rises in the tenth of a degree around t, t from 0 to 180 degrees. Only guesses go by it.
+pub fn rise(sines: &[u32; 901], t: u64) -> u64
+    requires { ⌜ now sines ≡ sineEntries ⌝ }
     requires { ⌜ t ≤ 180000000 ⌝ }
-    ensures { λ r. ⌜ r ≤ 1745328 ⌝ }
+    ensures { λ r. ⌜ r ≡ riseOf t ⌝ }
 {
     let k = (folded(t) / 100_000) as usize;
     if k == 900 {
         return 0;
     }
-    entry_by(table, k + 1) - entry_by(table, k)
+    entry(sines, k + 1) - entry(sines, k)
 }
 
 // The sine of t that lies in one turn.
-fn turn_sine_by(table: &[u32; 901], t: i64) -> i64
-    requires { ⌜ now table ≡ sines ⌝ }
+fn turn_sine(sines: &[u32; 901], t: i64) -> i64
+    requires { ⌜ now sines ≡ sineEntries ⌝ }
     requires { ⌜ Within 180000000 t ⌝ }
     ensures { λ r. ⌜ r ≡ withSignOf t (halfSine (natAbs t)) ⌝ }
 {
-    with_sign_of(t, half_sine_by(table, integers::size(t)))
+    integers::with_sign(t < 0, half_sine(sines, integers::size(t)))
 }
 
-// The sine of any angle over a lent table, 10^9 standing for one.
-pub fn sine_by(table: &[u32; 901], angle: Angle) -> i64
-    requires { ⌜ now table ≡ sines ⌝ }
+// The sine of any angle, 10^9 standing for one.
+pub fn sine(sines: &[u32; 901], angle: Angle) -> i64
+    requires { ⌜ now sines ≡ sineEntries ⌝ }
     ensures { λ r. ⌜ r ≡ sineOf (millionths angle) ⌝ }
 {
-    turn_sine_by(table, within_turn(angle.0))
-}
-
-// The cosine of any angle over a lent table.
-pub fn cosine_by(table: &[u32; 901], angle: Angle) -> i64
-    requires { ⌜ now table ≡ sines ⌝ }
-    ensures { λ r. ⌜ r ≡ cosineOf (millionths angle) ⌝ }
-{
-    turn_sine_by(table, quarter_on(within_turn(angle.0)))
-}
-
-// The sine of any angle.
-pub fn sine(angle: Angle) -> i64
-    ensures { λ r. ⌜ r ≡ sineOf (millionths angle) ⌝ }
-{
-    let table = table::SINES;
-    sine_by(&table, angle)
+    turn_sine(sines, within_turn(angle.0))
 }
 
 // The cosine of any angle.
-pub fn cosine(angle: Angle) -> i64
+pub fn cosine(sines: &[u32; 901], angle: Angle) -> i64
+    requires { ⌜ now sines ≡ sineEntries ⌝ }
     ensures { λ r. ⌜ r ≡ cosineOf (millionths angle) ⌝ }
 {
-    let table = table::SINES;
-    cosine_by(&table, angle)
+    turn_sine(sines, quarter_on(within_turn(angle.0)))
 }

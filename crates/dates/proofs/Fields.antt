@@ -1,5 +1,6 @@
 -- The minute of a double by the fields of its bits: sign s, exponent x, digits t.
--- A double is the fraction that its fields say, and `Rounding` goes by the fraction's value: near, small or far.
+-- A double is the fraction that its fields say, and rounding goes by the fraction's value (integers, Rounding): near, small or far.
+use lib.Signed.{_≤ℤ_, ltZ}
 use mathlib.Core.Bool.{Bool, true, false, not, cond}
 use mathlib.Core.Path.{_≡_, refl, sym, ap, subst, _∙_}
 use Prim.Native.Nat.{ℕ, zero, suc, _+_, _-_, _*_, _/_, _%_, _^_, _≤_, _<_}
@@ -8,21 +9,37 @@ use native.Mathlib.Omega.{arith}
 use borrow.Author.Tests.{ne-eqb}
 use lib.Bits.{bitAnd, and-mask}
 use lib.Dec.{T, eqb, leb}
-use lib.IntN.{ℤ, pos, negsuc, natAbs, _-ℤ_}
+use lib.IntN.{ℤ, pos, negsuc, _-ℤ_, _*ℤ_, negℤ}
 use lib.Ieee.{Float, nan, inf, fin, binary64, up, down, ofFields, ofBits, toBits, fits, isNan, ne}
 use lib.Ieee.Bits.{ofBits-toBits}
 use lib.Ieee.Compare.{differs-from-itself, nan-differs}
 use lib.Ieee.Exact.{HasValue, odd-sign}
 use lib.Ieee.Fits.{down-pos}
 use lib.Pow.{pow-add, pow-pos, pow-mono, field}
-use Rattle.integers.proofs.Difference.{d-minus, d-abs}
+use Rattle.integers.proofs.Difference.{d-minus, zarith, ext, d-mul, eq-d}
 use Rattle.integers.specs.Sign.{signed}
-use Rattle.dates.specs.Minute.{Minute, notFinite, minute, rounded, minuteOfJulian}
-use Rattle.dates.proofs.Rounding.{rounded-same, rounded-small, rounded-large, minute-is}
+use Rattle.dates.specs.Minute.{julianMinute, minuteOfJulian}
+use Rattle.dates.specs.Reach.{clamped, held}
+use Rattle.dates.specs.declared.Minute.{Minute}
+use Rattle.dates.specs.declared.Minute.the-variants.{At, NotFinite}
+use Rattle.integers.specs.Floor.{rounded}
+use Rattle.integers.proofs.Rounding.{signed-times, rounded-same, rounded-less, rounded-small, rounded-above, rounded-below}
 
 -- the minute that is z minutes from JD 0.0
 abbrev pub fromZero : ℤ → Minute
-fromZero z = minute (z -ℤ pos 3530224800)
+fromZero z = At (z -ℤ pos 3530224800)
+
+-- the minute of ±n / k: 2451545 days of 1440 minutes go out of it
+minute-is : (s : Bool) (n k : ℕ) → 0 < k → julianMinute s n k ≡ rounded (signed s (n * 1440)) k -ℤ pos 3530224800
+unfolding julianMinute
+minute-is s n k h =
+    let z = signed s n -ℤ pos (2451545 * k) in
+    let y = signed s (n * 1440) in
+    let w = pos (3530224800 * k) in
+    let e : z *ℤ pos 1440 ≡ y -ℤ w =
+    ext (z *ℤ pos 1440) (y -ℤ w)
+    (omega (arith, d-mul z (pos 1440), d-minus (signed s n) (pos (2451545 * k)), d-minus y w, eq-d _ _ (signed-times s n 1440), d-mul (signed s n) (pos 1440))) in
+    ap (λ (z : ℤ). rounded z k) e ∙ rounded-less y 3530224800 k h
 
 -- ---- the minute of a double of the value ±n / k
 minute-of-value : (d : Float) (s : Bool) (n k : ℕ) → HasValue d s n k → 0 < k → minuteOfJulian d ≡ fromZero (rounded (signed s (n * 1440)) k)
@@ -31,7 +48,7 @@ minute-of-value nan s n k h g = absurd h
 minute-of-value (inf t) s n k h g = absurd h
 minute-of-value (fin t m i) s n k h g =
     let e : m * up i * 1440 * k ≡ n * 1440 * down i = omega (arith, h .1) in
-    ap minute (minute-is t (m * up i) (down i) (down-pos i))
+    ap At (minute-is t (m * up i) (down i) (down-pos i))
     ∙ ap (λ (r : Bool). fromZero (rounded (signed r (m * up i * 1440)) (down i))) (h .0)
     ∙ ap fromZero (rounded-same s (m * up i * 1440) (n * 1440) (down i) k (down-pos i) g e)
 
@@ -94,37 +111,50 @@ led-least (suc x) t h = omega arith
 over : (m a b : ℕ) → 2 ^ 52 ≤ m → b ≤ a → 2 ^ 48 * (16 * b) ≤ m * a * 1440
 over m a b h g = omega (arith, NatL.mul-le-mul h g)
 
-still-far : (z : ℤ) → 2 ^ 48 ≤ natAbs z → 2 ^ 47 ≤ natAbs (z -ℤ pos 3530224800)
-still-far (pos n) h = omega (arith, d-minus (pos n) (pos 3530224800), d-abs (pos n -ℤ pos 3530224800))
-still-far (negsuc n) h = omega (arith, d-minus (negsuc n) (pos 3530224800), d-abs (negsuc n -ℤ pos 3530224800))
+-- a minute beyond 10^14 is carried as that end
+clamp-above : (z : ℤ) → pos 100000000000000 ≤ℤ z → clamped z ≡ pos 100000000000000
+clamp-above z h = go (ltZ z (negsuc 99999999999999)) (ltZ (pos 100000000000000) z) refl refl
+  where
+    go : (a b : Bool) → ltZ z (negsuc 99999999999999) ≡ a → ltZ (pos 100000000000000) z ≡ b → cond a (negsuc 99999999999999) (cond b (pos 100000000000000) z) ≡ pos 100000000000000
+    go true b e f = absurd (omega (zarith, h))
+    go false true e f = refl
+    go false false e f = omega (zarith, h)
 
-pub record FarMinute (d : Float) : Type 0 where
-  pub at : ℤ
-  pub is : minuteOfJulian d ≡ minute at
-  pub far : 2 ^ 47 ≤ natAbs at
+clamp-below : (z : ℤ) → z ≤ℤ negsuc 99999999999999 → clamped z ≡ negsuc 99999999999999
+clamp-below z h = go (ltZ z (negsuc 99999999999999)) (ltZ (pos 100000000000000) z) refl refl
+  where
+    go : (a b : Bool) → ltZ z (negsuc 99999999999999) ≡ a → ltZ (pos 100000000000000) z ≡ b → cond a (negsuc 99999999999999) (cond b (pos 100000000000000) z) ≡ negsuc 99999999999999
+    go true b e f = refl
+    go false true e f = absurd (omega (zarith, h))
+    go false false e f = omega (zarith, h)
 
-pub far-minute : (s : Bool) (x t : ℕ) → 1070 < x → x < 2047 → FarMinute (ofFields binary64 s x t)
+far-is : (s : Bool) (n k : ℕ) → 0 < k → 2 ^ 48 * k ≤ n → clamped (rounded (signed s n) k -ℤ pos 3530224800) ≡ signed s 100000000000000
+far-is false n k h g =
+    let z = rounded (pos n) k in
+    let l = rounded-above n k (2 ^ 48) h g in
+    clamp-above (z -ℤ pos 3530224800) (omega (zarith, l, d-minus z (pos 3530224800)))
+far-is true n k h g =
+    let z = rounded (negℤ (pos n)) k in
+    let l = rounded-below n k (2 ^ 48) h g in
+    clamp-below (z -ℤ pos 3530224800) (omega (zarith, l, d-minus z (pos 3530224800)))
+
+pub far-minute : (s : Bool) (x t : ℕ) → 1070 < x → x < 2047 → held (minuteOfJulian (ofFields binary64 s x t)) ≡ At (signed s 100000000000000)
 far-minute s x t h l =
     let p : 0 < x = omega arith in
     let e : 1070 ≤ x - 1 = omega arith in
     let u = over (led x t) (2 ^ (x - 1)) (2 ^ 1070) (led-least x t p) (pow-mono e) in
-    let z = rounded (signed s (units x t * 1440)) (2 ^ 1074) in
-    record {
-      at = z -ℤ pos 3530224800;
-      is = minute-of-fields s x t l;
-      far = still-far z (rounded-large s (units x t * 1440) (2 ^ 1074) (2 ^ 48) (pow-pos 1074) u);
-    }
+    ap held (minute-of-fields s x t l) ∙ ap At (far-is s (units x t * 1440) (2 ^ 1074) (pow-pos 1074) u)
 
 -- ---- no number: the field of ones, and what differs from itself
-pub no-minute : (s : Bool) (t : ℕ) → minuteOfJulian (ofFields binary64 s 2047 t) ≡ notFinite
+pub no-minute : (s : Bool) (t : ℕ) → minuteOfJulian (ofFields binary64 s 2047 t) ≡ NotFinite
 unfolding ofFields minuteOfJulian
 no-minute s t = go (eqb t 0)
   where
-    go : (b : Bool) → minuteOfJulian (cond b (inf s) nan) ≡ notFinite
+    go : (b : Bool) → minuteOfJulian (cond b (inf s) nan) ≡ NotFinite
     go true = refl
     go false = refl
 
-pub nan-minute : (d : Float) → ne d d ≡ true → minuteOfJulian d ≡ notFinite
+pub nan-minute : (d : Float) → ne d d ≡ true → minuteOfJulian d ≡ NotFinite
 unfolding minuteOfJulian
 nan-minute d h = ap minuteOfJulian (differs-from-itself d (subst T (sym h) tt))
 

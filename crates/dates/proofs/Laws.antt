@@ -1,171 +1,137 @@
--- What follows from a moment: where its minute lies, what sum it is, and when it is a refusal.
--- A moment is a test of the exact sum, so each law goes by the test's outcome.
-use mathlib.Core.Bool.{Bool, true, false}
+-- What follows from a moment: where its minute lies, and when it is a refusal; that a minute as it is carried is enough; and that a
+-- drift lies between those at the two ends of its minutes. A moment is a test of the exact sum, so its laws go by the test's outcome.
+use mathlib.Core.Bool.{Bool, true, false, cond}
 use mathlib.Core.Logic.{_⊎_, inl, inr}
 use mathlib.Core.Path.{_≡_, refl, sym, ap, subst, _∙_}
-use Prim.Native.Nat.{ℕ, _^_, _≤_}
+use Prim.Native.Nat.{ℕ, _*_, _≤_}
 use native.Mathlib.Omega.{arith}
-use lib.Dec.{T}
-use lib.IntN.{ℤ, pos, negsuc, natAbs, _+ℤ_, +ℤ-idr}
-use lib.Signed.{leZ, _≤ℤ_, _<ℤ_, clashℤ}
-use mir.Facts.{and-yes, yes-and}
-use Rattle.integers.specs.Range.{Within}
-use Rattle.integers.proofs.Difference.{zarith, d-add, d-abs, d-lt}
+use lib.IntN.{ℤ, pos, negsuc, _+ℤ_, _*ℤ_, +ℤ-idr}
+use lib.Signed.{ltZ, _≤ℤ_, _<ℤ_}
+use Rattle.integers.specs.Range.{Within, FromTo}
+use Rattle.integers.proofs.Difference.{zarith, d-add, d-abs}
+use Rattle.integers.proofs.Ring.{pos-mono, neg-anti}
+use Rattle.integers.proofs.Floor.{floor-mono}
+use Rattle.integers.proofs.Ranges.{is-inside, is-outside, is-below, is-above, inside-of}
+use Rattle.integers.proofs.Number.{w-mul, w-floor<}
 use Rattle.refusals.specs.declared.Refusal.{Refusal}
-use Rattle.refusals.specs.declared.Refusal.the-variants.{NotFinite, OutsideInterval}
-use Rattle.dates.specs.declared.Date.{Date}
-use Rattle.dates.specs.declared.Date.the-variants.{Minutes}
+use Rattle.refusals.specs.declared.Refusal.the-variants.{NotFinite as DateNotFinite, OutsideInterval}
+use Rattle.dates.specs.declared.Interval.{Interval}
+use Rattle.dates.specs.declared.Minute.{Minute}
+use Rattle.dates.specs.declared.Minute.the-variants.{At, NotFinite}
 use Rattle.dates.specs.declared.Moment.the-variants.{Accepted, Refused}
-use Rattle.dates.specs.Reach.{InReach}
-use Rattle.dates.specs.Minute.{Minute, notFinite, minute, minuteOf}
-use Rattle.dates.specs.Moment.{inInterval, firstMinute, lastMinute, accepted, tested, momentFrom, momentWithin, momentAfter, momentOf}
-
--- m lies from the first minute to the last, both included
-pub record Inside (first last m : ℤ) : Type 0 where
-  pub from : first ≤ℤ m
-  pub to : m ≤ℤ last
+use Rattle.dates.specs.Minute.{driftOf}
+use Rattle.dates.specs.Moment.{Covers, covers, testedIf, tested, momentAt}
+use Rattle.dates.specs.Reach.{clamped, held, Held, no-minute, near-minute, InReach}
 
 -- ---- the test of a minute, and what its outcome tells
-module _ (first last m : ℤ) where
-  pub to-test : Inside first last m → T (inInterval first last m)
-  to-test h = yes-and (leZ first m) (leZ m last) (h .from .le) (h .to .le)
-
-  pub of-test : T (inInterval first last m) → Inside first last m
-  of-test t =
-      let h = and-yes (leZ first m) (leZ m last) t in
-      record { from = record { le = h .0 }; to = record { le = h .1 } }
-
-  pub inside : Inside first last m → tested first last m ≡ Accepted m
+module _ (interval : Interval) (m : ℤ) where
+  pub by-test : (b : Bool) → covers interval m ≡ b → tested interval m ≡ testedIf b m
   unfolding tested
-  inside h = go (inInterval first last m) (to-test h)
+  by-test b e = ap (λ (c : Bool). testedIf c m) e
+
+  pub inside : Covers interval m → tested interval m ≡ Accepted m
+  inside h = by-test true (is-inside (interval .first) (interval .last) m h)
+
+  pub outside : (Covers interval m → ⊥) → tested interval m ≡ Refused OutsideInterval
+  outside n = by-test false (is-outside (interval .first) (interval .last) m n)
+
+  tested-inside : (a : ℤ) → tested interval m ≡ Accepted a → Covers interval a
+  tested-inside a e = go (covers interval m) refl (sym (by-test (covers interval m) refl) ∙ e)
     where
-      go : (b : Bool) → T b → accepted b m ≡ Accepted m
-      go true t = refl
-      go false t = absurd t
-
-  outside : (Inside first last m → ⊥) → tested first last m ≡ Refused OutsideInterval
-  unfolding tested
-  outside n = go (inInterval first last m) (λ t. n (of-test t))
-    where
-      go : (b : Bool) → (T b → ⊥) → accepted b m ≡ Refused OutsideInterval
-      go true n = absurd (n tt)
-      go false n = refl
-
-  pub before : m <ℤ first → tested first last m ≡ Refused OutsideInterval
-  before h = outside (λ (i : Inside first last m). clashℤ h (i .from))
-
-  pub after : last <ℤ m → tested first last m ≡ Refused OutsideInterval
-  after h = outside (λ (i : Inside first last m). clashℤ h (i .to))
-
-  pub tested-inside : (a : ℤ) → tested first last m ≡ Accepted a → (a ≡ m) × Inside first last m
-  unfolding tested
-  tested-inside a e = go (inInterval first last m) of-test e
-    where
-      go : (b : Bool) → (T b → Inside first last m) → accepted b m ≡ Accepted a → (a ≡ m) × Inside first last m
-      go true f e = (cc, f tt)
+      go : (b : Bool) → covers interval m ≡ b → testedIf b m ≡ Accepted a → Covers interval a
+      go true f e =
+          let g : m ≡ a = cc in
+          subst (Covers interval) g (inside-of (interval .first) (interval .last) m f)
       go false f e = let z : _≡_ {A = ℕ} 0 1 = cc in absurd (omega arith)
 
-  tested-refused : (r : Refusal) → tested first last m ≡ Refused r → r ≡ OutsideInterval
-  unfolding tested
-  tested-refused r e = go (inInterval first last m) e
+  tested-refused : (r : Refusal) → tested interval m ≡ Refused r → r ≡ OutsideInterval
+  tested-refused r e = go (covers interval m) (sym (by-test (covers interval m) refl) ∙ e)
     where
-      go : (b : Bool) → accepted b m ≡ Refused r → r ≡ OutsideInterval
+      go : (b : Bool) → testedIf b m ≡ Refused r → r ≡ OutsideInterval
       go true e = let z : _≡_ {A = ℕ} 0 1 = cc in absurd (omega arith)
       go false e = cc
 
--- ---- a date and an offset
-module _ (first last : ℤ) (date : Date) (offset : ℤ) where
-  -- refusal 1 exactly when the date is not finite, whatever the offset
-  pub not-finite : minuteOf date ≡ notFinite → momentWithin first last date offset ≡ Refused NotFinite
-  unfolding momentWithin momentFrom
-  not-finite e = ap (λ (m : Minute). momentFrom first last m offset) e
+-- ---- a minute and an offset
+module _ (interval : Interval) where
+  pub not-finite : (offset : ℤ) → momentAt interval NotFinite offset ≡ Refused DateNotFinite
+  unfolding momentAt
+  not-finite offset = refl
 
-  pub only-not-finite : momentWithin first last date offset ≡ Refused NotFinite → minuteOf date ≡ notFinite
-  unfolding momentWithin momentFrom
-  only-not-finite h = go (minuteOf date) h
-    where
-      go : (m : Minute) → momentFrom first last m offset ≡ Refused NotFinite → m ≡ notFinite
-      go notFinite h = refl
-      go (minute m) h =
-          let e = tested-refused first last (m +ℤ offset) NotFinite h in
-          let z : _≡_ {A = ℕ} 0 1 = cc in
-          absurd (omega arith)
+  pub at-sum : (m offset : ℤ) → momentAt interval (At m) offset ≡ tested interval (m +ℤ offset)
+  unfolding momentAt
+  at-sum m offset = refl
 
-  -- any other date is the test of the exact sum
-  pub by-minute : (m : ℤ) → minuteOf date ≡ minute m → momentWithin first last date offset ≡ tested first last (m +ℤ offset)
-  unfolding momentWithin momentFrom
-  by-minute m e = ap (λ (m : Minute). momentFrom first last m offset) e
-
-  -- so the minute accepted is the date's minute and the offset, and refusal 2 is given only where that lies outside
-  pub accepted-sum : (m a : ℤ) → minuteOf date ≡ minute m → momentWithin first last date offset ≡ Accepted a → a ≡ m +ℤ offset
-  accepted-sum m a e h = tested-inside first last (m +ℤ offset) a (sym (by-minute m e) ∙ h) .0
-
-  pub only-outside : (m : ℤ) → minuteOf date ≡ minute m → momentWithin first last date offset ≡ Refused OutsideInterval → Inside first last (m +ℤ offset) → ⊥
-  only-outside m e h i =
-      let a : Accepted (m +ℤ offset) ≡ Refused OutsideInterval = sym (by-minute m e ∙ inside first last (m +ℤ offset) i) ∙ h in
-      let z : _≡_ {A = ℕ} 0 1 = cc in
-      omega arith
-
-  -- there is no other refusal
-  pub one-or-two : (r : Refusal) → momentWithin first last date offset ≡ Refused r → (r ≡ NotFinite) ⊎ (r ≡ OutsideInterval)
-  unfolding momentWithin momentFrom
-  one-or-two r h = go (minuteOf date) h
-    where
-      go : (m : Minute) → momentFrom first last m offset ≡ Refused r → (r ≡ NotFinite) ⊎ (r ≡ OutsideInterval)
-      go notFinite h = inl cc
-      go (minute m) h = inr (tested-refused first last (m +ℤ offset) r h)
+  -- the offset goes into the minute
+  pub sum-first : (m offset : ℤ) → momentAt interval (At m) offset ≡ momentAt interval (At (m +ℤ offset)) (pos 0)
+  sum-first m offset = at-sum m offset ∙ ap (tested interval) (sym (+ℤ-idr (m +ℤ offset))) ∙ sym (at-sum (m +ℤ offset) (pos 0))
 
   -- a minute that is accepted lies in the interval
-  pub accepted-inside : (a : ℤ) → momentWithin first last date offset ≡ Accepted a → Inside first last a
-  unfolding momentWithin momentFrom
-  accepted-inside a h = go (minuteOf date) h
-    where
-      go : (m : Minute) → momentFrom first last m offset ≡ Accepted a → Inside first last a
-      go notFinite h = let z : _≡_ {A = ℕ} 0 1 = cc in absurd (omega arith)
-      go (minute m) h = let t = tested-inside first last (m +ℤ offset) a h in subst (Inside first last) (sym (t .0)) (t .1)
+  pub accepted-inside : (minute : Minute) (offset a : ℤ) → momentAt interval minute offset ≡ Accepted a → Covers interval a
+  accepted-inside NotFinite offset a h =
+      let e = sym (not-finite offset) ∙ h in
+      let z : _≡_ {A = ℕ} 0 1 = cc in
+      absurd (omega arith)
+  accepted-inside (At m) offset a h = tested-inside interval (m +ℤ offset) a (sym (at-sum m offset) ∙ h)
 
-  -- a date of a minute, and an offset, is the sum's whole minutes
-  pub as-minutes : (m : ℤ) → minuteOf date ≡ minute m → momentWithin first last date offset ≡ momentWithin first last (Minutes (m +ℤ offset)) (pos 0)
-  unfolding momentWithin momentFrom
-  as-minutes m e = by-minute m e ∙ ap (tested first last) (sym (+ℤ-idr (m +ℤ offset)))
+  -- there is no refusal but 1 and 2
+  pub one-or-two : (minute : Minute) (offset : ℤ) (r : Refusal) → momentAt interval minute offset ≡ Refused r → (r ≡ DateNotFinite) ⊎ (r ≡ OutsideInterval)
+  one-or-two NotFinite offset r h = let e = sym (not-finite offset) ∙ h in inl cc
+  one-or-two (At m) offset r h = inr (tested-refused interval (m +ℤ offset) r (sym (at-sum m offset) ∙ h))
 
--- ---- Table 1's interval
-pub after-is : (date : Date) (offset : ℤ) → momentAfter date offset ≡ momentWithin firstMinute lastMinute date offset
-unfolding momentAfter
-after-is date offset = refl
+-- ---- a minute as it is carried
+clamp-within : (z : ℤ) → Within 100000000000000 (clamped z)
+clamp-within z = go (ltZ z (negsuc 99999999999999)) (ltZ (pos 100000000000000) z) refl refl
+  where
+    go : (a b : Bool) → ltZ z (negsuc 99999999999999) ≡ a → ltZ (pos 100000000000000) z ≡ b → Within 100000000000000 (cond a (negsuc 99999999999999) (cond b (pos 100000000000000) z))
+    go true b e f = record { within = omega arith }
+    go false true e f = record { within = omega arith }
+    go false false e f = by z e f
+      where
+        by : (z : ℤ) → ltZ z (negsuc 99999999999999) ≡ false → ltZ (pos 100000000000000) z ≡ false → Within 100000000000000 z
+        by (pos n) e f = record { within = omega zarith }
+        by (negsuc n) e f = record { within = omega zarith }
 
-pub of-is : (date : Date) → momentOf date ≡ momentAfter date (pos 0)
-unfolding momentOf
-of-is date = refl
+pub held-is : (minute : Minute) → Held (held minute)
+held-is NotFinite = no-minute
+held-is (At m) = near-minute (clamp-within m)
 
-pub after-minute : (date : Date) (m k : ℤ) → minuteOf date ≡ minute m → momentAfter date k ≡ momentOf (Minutes (m +ℤ k))
-unfolding momentAfter momentOf
-after-minute date m k e = as-minutes firstMinute lastMinute date k m e
+-- no interval in reach tells it from the exact one
+pub held-enough : (interval : Interval) (minute : Minute) (offset : ℤ) → InReach interval offset → momentAt interval (held minute) offset ≡ momentAt interval minute offset
+held-enough interval NotFinite offset r = refl
+held-enough interval (At m) offset r =
+    at-sum interval (clamped m) offset ∙ go (ltZ m (negsuc 99999999999999)) (ltZ (pos 100000000000000) m) refl refl ∙ sym (at-sum interval m offset)
+  where
+    low : (z : ℤ) → z ≤ℤ negsuc 99999999999999 → tested interval (z +ℤ offset) ≡ Refused OutsideInterval
+    low z h =
+        let l : (z +ℤ offset) <ℤ interval .first = omega (zarith, h, d-add z offset, d-abs offset, d-abs (interval .first), r .first-near .within, r .offset-near .within) in
+        by-test interval (z +ℤ offset) false (is-below (interval .first) (interval .last) (z +ℤ offset) l)
 
-pub after-minutes : (m k : ℤ) → momentAfter (Minutes m) k ≡ momentOf (Minutes (m +ℤ k))
-after-minutes m k = after-minute (Minutes m) m k refl
+    high : (z : ℤ) → pos 100000000000000 ≤ℤ z → tested interval (z +ℤ offset) ≡ Refused OutsideInterval
+    high z h =
+        let l : interval .last <ℤ (z +ℤ offset) = omega (zarith, h, d-add z offset, d-abs offset, d-abs (interval .last), r .last-near .within, r .offset-near .within) in
+        by-test interval (z +ℤ offset) false (is-above (interval .first) (interval .last) (z +ℤ offset) l)
 
-pub after-not-finite : (date : Date) (k : ℤ) → minuteOf date ≡ notFinite → momentAfter date k ≡ Refused NotFinite
-after-not-finite date k e = after-is date k ∙ not-finite firstMinute lastMinute date k e
+    go : (a b : Bool) → ltZ m (negsuc 99999999999999) ≡ a → ltZ (pos 100000000000000) m ≡ b → tested interval (cond a (negsuc 99999999999999) (cond b (pos 100000000000000) m) +ℤ offset) ≡ tested interval (m +ℤ offset)
+    go true b e f = low (negsuc 99999999999999) (omega zarith) ∙ sym (low m (omega zarith))
+    go false true e f = high (pos 100000000000000) (omega zarith) ∙ sym (high m (omega zarith))
+    go false false e f = refl
 
-pub inside-within : (a : ℤ) → Inside firstMinute lastMinute a → Within 105189840 a
-inside-within (pos a) h = record { within = omega (zarith, h .to) }
-inside-within (negsuc a) h = record { within = omega (zarith, h .from) }
+-- ---- what a rate comes to: within a bound, and between what it comes to at the two ends of the minutes
+pub drift-within : {rate m : ℤ} {r n : ℕ} (k : ℕ) → Within r rate → Within n m → r * n ≤ k * 52596000 → Within k (driftOf rate m)
+unfolding driftOf
+drift-within k p q l = w-floor< 52596000 k (omega arith) (w-mul p q) l
 
-pub after-inside : (date : Date) (offset a : ℤ) → momentAfter date offset ≡ Accepted a → Inside firstMinute lastMinute a
-after-inside date offset a h = accepted-inside firstMinute lastMinute date offset a (sym (after-is date offset) ∙ h)
+rises : (r : ℕ) (m n : ℤ) → m ≤ℤ n → driftOf (pos r) m ≤ℤ driftOf (pos r) n
+unfolding driftOf
+rises r m n h = floor-mono (pos r *ℤ m) (pos r *ℤ n) 52596000 (omega arith) (pos-mono r m n h)
 
-pub after-within : (date : Date) (offset a : ℤ) → momentAfter date offset ≡ Accepted a → Within 105189840 a
-after-within date offset a h = inside-within a (after-inside date offset a h)
+falls : (r : ℕ) (m n : ℤ) → m ≤ℤ n → driftOf (negsuc r) n ≤ℤ driftOf (negsuc r) m
+unfolding driftOf
+falls r m n h = floor-mono (negsuc r *ℤ n) (negsuc r *ℤ m) 52596000 (omega arith) (neg-anti r m n h)
 
-pub of-within : (date : Date) (a : ℤ) → momentOf date ≡ Accepted a → Within 105189840 a
-of-within date a h = after-within date (pos 0) a (sym (of-is date) ∙ h)
+between : (x lo hi : ℤ) {d e f : ℤ} → d ≤ℤ e → e ≤ℤ f → FromTo lo hi (x +ℤ d) → FromTo lo hi (x +ℤ f) → FromTo lo hi (x +ℤ e)
+between x lo hi {d} {e} {f} p q a b = record { low = omega (zarith, p, a .low, d-add x d, d-add x e); high = omega (zarith, q, b .high, d-add x e, d-add x f) }
 
--- ---- a minute of 2^47 or more lies outside every interval in reach, whatever the offset
-pub far-outside : (first last m offset : ℤ) → InReach first last offset → 2 ^ 47 ≤ natAbs m → tested first last (m +ℤ offset) ≡ Refused OutsideInterval
-far-outside first last (pos m) offset r h =
-    after first last (pos m +ℤ offset)
-    (d-lt last (pos m +ℤ offset) (omega (arith, d-add (pos m) offset, d-abs offset, d-abs last, r .last-near .within, r .offset-near .within)))
-far-outside first last (negsuc m) offset r h =
-    before first last (negsuc m +ℤ offset)
-    (d-lt (negsuc m +ℤ offset) first (omega (arith, d-add (negsuc m) offset, d-abs offset, d-abs first, r .first-near .within, r .offset-near .within)))
+pub drift-between : (x rate first last m lo hi : ℤ) → FromTo first last m → FromTo lo hi (x +ℤ driftOf rate first) → FromTo lo hi (x +ℤ driftOf rate last) → FromTo lo hi (x +ℤ driftOf rate m)
+drift-between x (pos r) first last m lo hi h a b = between x lo hi (rises r first m (h .low)) (rises r m last (h .high)) a b
+drift-between x (negsuc r) first last m lo hi h a b = between x lo hi (falls r m last (h .high)) (falls r first m (h .low)) b a

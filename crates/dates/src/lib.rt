@@ -1,13 +1,12 @@
-// Dates: a Julian date or whole minutes, the exact minute that a date and an offset come to, and its test against an interval.
-// A Julian date is taken apart by its bits, since document 01 rounds it exactly, before any test of the interval.
+// Dates: a Julian date or whole minutes, the exact minute that a date comes to, its test against an interval, and what a rate a
+// century comes to in so many minutes. The minute is one step and the test another, so that a refusal can stand between them.
 ghost use mathlib.Core.Path.{_≡_};
-ghost use Prim.Native.Nat.{_^_, _≤_};
-ghost use lib.IntN.{_+ℤ_};
+ghost use Prim.Native.Nat.{_^_};
 ghost use lib.Ieee.{binary64, ofFields};
-ghost use Rattle.integers.specs.Range.{Within};
-ghost use Rattle.dates.specs.Minute.{minute, rounded, minuteOfJulian};
-ghost use Rattle.dates.specs.Reach.{InReach, NearFields, RoundFits};
-ghost use Rattle.dates.specs.Moment.{tested, momentWithin, momentAfter, momentOf};
+ghost use Rattle.integers.specs.Floor.{rounded};
+ghost use Rattle.dates.specs.Minute.{minuteOfJulian, minuteOf, driftOf};
+ghost use Rattle.dates.specs.Moment.{momentAt};
+ghost use Rattle.dates.specs.Reach.{clamped, held, Held, InReach, NearFields, RoundFits, DriftFits};
 use refusals::Refusal;
 
 // A date is given either as a Julian date, a double, or as whole minutes from JD 2451545.0.
@@ -16,19 +15,29 @@ pub enum Date {
     Minutes(i64),
 }
 
+// The minute of a date, which a Julian date that is not finite lacks.
+pub enum Minute {
+    At(i64),
+    NotFinite,
+}
+
+// The minutes from the first to the last, both accepted.
+pub struct Interval {
+    pub first: i64,
+    pub last: i64,
+}
+
 // The minute of a date that is accepted, or the refusal of one that is not: number 1 or 2.
 pub enum Moment {
     Accepted(i64),
     Refused(Refusal),
 }
 
-// The interval of Table 1, both ends accepted: JD 2378496.5 and JD 2469807.5.
-pub const FIRST_MINUTE: i64 = -105_189_840;
-
-pub const LAST_MINUTE: i64 = 26_298_000;
-
 // JD 2451545.0 in minutes: 2,451,545 days of 1,440.
 const EPOCH: i64 = 3_530_224_800;
+
+// No interval reaches as far as this, 190 million years, so that a minute beyond it need not be known.
+const FAR: i64 = 100_000_000_000_000;
 
 // floor(a / 2^v + 1/2): the machine's shift of a signed number is a floor.
 fn rounded(a: i64, v: u64) -> i64
@@ -43,7 +52,7 @@ fn rounded(a: i64, v: u64) -> i64
 // 2^-12 days, where the leading 2^52 may be missing, it is less than half a minute from JD 0.0.
 fn minute_of_fields(negative: bool, x: u64, t: u64) -> i64
     requires { ⌜ NearFields x t ⌝ }
-    ensures { λ r. ⌜ minuteOfJulian (ofFields binary64 negative x t) ≡ minute r ⌝ }
+    ensures { λ r. ⌜ minuteOfJulian (ofFields binary64 negative x t) ≡ Minute.At r ⌝ }
 {
     if x < 1011 {
         return 0 - EPOCH;
@@ -52,64 +61,69 @@ fn minute_of_fields(negative: bool, x: u64, t: u64) -> i64
     rounded(integers::with_sign(negative, parts), 1070 - x) - EPOCH
 }
 
-// The moment of whole minutes: the sum is taken where the test has shown that it fits.
-fn moment_of_minutes(first: i64, last: i64, minutes: i64, offset: i64) -> Moment
-    requires { ⌜ InReach first last offset ⌝ }
-    ensures { λ r. ⌜ r ≡ tested first last (minutes +ℤ offset) ⌝ }
+// A minute beyond FAR either way is put on that end.
+fn clamped(m: i64) -> i64
+    ensures { λ r. ⌜ r ≡ clamped m ⌝ }
 {
-    if minutes < first - offset {
-        return Moment::Refused(Refusal::OutsideInterval); // before the first minute
+    if m < 0 - FAR {
+        return 0 - FAR;
     }
-    if last - offset < minutes {
-        return Moment::Refused(Refusal::OutsideInterval); // after the last
+    if FAR < m {
+        return FAR;
     }
-    Moment::Accepted(minutes + offset)
+    m
 }
 
-// The moment of a Julian date, by its bits: the sign, 11 bits of exponent and 52 of digits. One of 2^48 days or more lies
-// outside every interval in reach.
-fn moment_of_julian(first: i64, last: i64, d: f64, offset: i64) -> Moment
-    requires { ⌜ InReach first last offset ⌝ }
-    ensures { λ r. ⌜ r ≡ momentWithin first last (Date.Julian d) offset ⌝ }
+// The minute of a Julian date, by its bits: the sign, 11 bits of exponent and 52 of digits. One of 2^48 days or more is far.
+fn minute_of_julian(d: f64) -> Minute
+    ensures { λ r. ⌜ r ≡ held (minuteOfJulian d) ⌝ }
 {
     if d != d {
-        return Moment::Refused(Refusal::NotFinite); // not a number, of which the bits are not known
+        return Minute::NotFinite; // not a number, of which the bits are not known
     }
     let b = f64::to_bits(d);
     let x = (b >> 52) & 0x7ff;
     let t = b & 0xf_ffff_ffff_ffff;
     if x == 0x7ff {
-        return Moment::Refused(Refusal::NotFinite); // an infinity
-    }
-    if 1070 < x {
-        return Moment::Refused(Refusal::OutsideInterval); // 2^48 days or more
+        return Minute::NotFinite; // an infinity
     }
     let negative = 0x8000_0000_0000_0000 <= b;
-    moment_of_minutes(first, last, minute_of_fields(negative, x, t), offset)
+    if 1070 < x {
+        return Minute::At(integers::with_sign(negative, 100_000_000_000_000));
+    }
+    Minute::At(clamped(minute_of_fields(negative, x, t)))
 }
 
-// The moment of a date and an offset, by an interval of which both ends are accepted.
-pub fn moment_within(first: i64, last: i64, date: Date, offset: i64) -> Moment
-    requires { ⌜ InReach first last offset ⌝ }
-    ensures { λ r. ⌜ r ≡ momentWithin first last date offset ⌝ }
+// The minute of a date of either form.
+pub fn minute_of(date: Date) -> Minute
+    ensures { λ r. ⌜ r ≡ held (minuteOf date) ⌝ }
 {
     match date {
-        Date::Julian(d) => moment_of_julian(first, last, d, offset),
-        Date::Minutes(m) => moment_of_minutes(first, last, m, offset),
+        Date::Julian(d) => minute_of_julian(d),
+        Date::Minutes(m) => Minute::At(clamped(m)),
     }
 }
 
-// The same by Table 1's interval.
-pub fn moment_after(date: Date, offset: i64) -> Moment
-    requires { ⌜ Within 10000000000000 offset ⌝ }
-    ensures { λ r. ⌜ r ≡ momentAfter date offset ⌝ }
+// A minute and an offset, tested against an interval: refusal 1, then 2.
+pub fn moment_at(interval: Interval, minute: Minute, offset: i64) -> Moment
+    requires { ⌜ InReach interval offset ⌝ }
+    requires { ⌜ Held minute ⌝ }
+    ensures { λ r. ⌜ r ≡ momentAt interval minute offset ⌝ }
 {
-    moment_within(FIRST_MINUTE, LAST_MINUTE, date, offset)
+    let Minute::At(start) = minute else {
+        return Moment::Refused(Refusal::NotFinite);
+    };
+    let m = start + offset;
+    if !integers::is_from_to(interval.first, interval.last, m) {
+        return Moment::Refused(Refusal::OutsideInterval);
+    }
+    Moment::Accepted(m)
 }
 
-// The moment of a date by itself.
-pub fn moment_of(date: Date) -> Moment
-    ensures { λ r. ⌜ r ≡ momentOf date ⌝ }
+// floor(rate m / 52,596,000): what a rate a century comes to in m minutes. The product may be past 64 bits.
+pub fn drift(rate: i64, m: i64) -> i64
+    requires { ⌜ DriftFits rate m ⌝ }
+    ensures { λ r. ⌜ r ≡ driftOf rate m ⌝ }
 {
-    moment_after(date, 0)
+    integers::mul_div(rate, m, 52_596_000)
 }

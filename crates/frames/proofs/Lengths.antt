@@ -1,19 +1,18 @@
 -- Lengths: the sum of squares fits, no part is larger than the length, so a unit vector's parts are at most 10^9; a cross product's bounds.
 -- L is the greatest number whose square is not above the sum, and no part's square is above the sum.
 use mathlib.Core.List.{List}
-use Prim.Native.Nat.{ℕ, zero, suc, _+_, _*_, _^_, _≤_, _<_, zero-le}
+use Prim.Native.Nat.{ℕ, zero, suc, _*_, _^_, _≤_, _<_, zero-le}
 use native.Mathlib.Nat.{mul-le-mul, zero-lt-suc}
 use native.Mathlib.Omega.{arith}
-use lib.Dec.{T, leb, ltb, leb→le, ltb→lt}
 use lib.IntN.{ℤ, pos, natAbs, _*ℤ_}
 use Rattle.integers.specs.Range.{Within}
 use Rattle.integers.specs.Floor.{floorDiv}
 use Rattle.integers.specs.Root.{IsRoot}
-use Rattle.integers.proofs.Number.{w-lit, w-mul, w-sub, w-floor<}
+use Rattle.integers.proofs.Number.{w-lit, w-mul, w-sub, w-floor<, w-floor}
 use Rattle.integers.proofs.Roots.{root-is, root-small}
-use Rattle.frames.specs.Vector.{at, squareOf, squaresOf, lengthOf, overLength, unitOf, crossPart, crossOf}
-use Rattle.frames.specs.Range.{PartsWithin}
-use Rattle.frames.proofs.Parts.{three}
+use Rattle.frames.specs.Vector.{squareOf, squaresOf, lengthOf, overLength, unitOf, crossPart, crossOf}
+use Rattle.integers.specs.Triple.{at, PartsWithin}
+use Rattle.integers.proofs.Triples.{three}
 
 -- ---- squares
 pub square-small : {n : ℕ} (z : ℤ) → Within n z → squareOf z ≤ n * n
@@ -64,14 +63,10 @@ squares-fit v p = omega (arith, squares-small v p)
 
 -- ---- the cross product
 module _ (a b : List ℤ) where
-  pub cross-part-within : {m n p q : ℕ} (k i j : ℕ) → Within m (at a i) → Within n (at b j) → Within p (at a j) → Within q (at b i) → T (leb (m * n + p * q) (k * 1000000000)) → Within k (crossPart a b i j)
-  cross-part-within {m} {n} {p} {q} k i j x y z w t =
-      w-floor< 1000000000 k (ltb→lt 0 1000000000 tt) (w-sub (w-mul x y) (w-mul z w)) (leb→le (m * n + p * q) (k * 1000000000) t)
-
   -- of two vectors whose parts are at most 10^9
   pub cross-within : PartsWithin 1000000000 a → PartsWithin 1000000000 b → PartsWithin 2000000000 (crossOf a b)
   unfolding crossOf
   cross-within p q = three (part 1 2) (part 2 0) (part 0 1)
     where
       part : (i j : ℕ) → Within 2000000000 (crossPart a b i j)
-      part i j = cross-part-within 2000000000 i j (p .part i) (q .part j) (p .part j) (q .part i) tt
+      part i j = w-floor 999999999 2000000000 (w-sub (w-mul (p .part i) (q .part j)) (w-mul (p .part j) (q .part i))) tt

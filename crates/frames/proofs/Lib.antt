@@ -1,13 +1,19 @@
 -- The laws of vectors, rotations and frames. They are public, for the crates above.
---     Held      each element of an array of signed numbers, and of rows of them, fits 64 bits
---     Parts     bounds on the parts of vectors and the entries of rotations; a turn's sums fit, and what it gives is bounded
+--     Choice    which frames have rows; vectors within ±500,000,000
 --     Lengths   lengths, unit vectors and cross products: their bounds
---     Choice    the tests of the definitions: frames that have rows, refusal 5
---     Rows      the numbers of GEI and HCI; the bounds of every frame's rows and of RTN's, and of a vector that they turn
---     Earth     where the Earth can be, HEE and HEEQ divide by no length of 0
-pub mod Held
-pub mod Parts
-pub mod Lengths
+--     Dots      sums of products: Cauchy's inequality, and what roundings do to lengths and sums
+--     Norms     how much longer a turn makes a vector, by its rows
+--     Turns     so a turned vector's length has a bound, and the turn overflows nowhere
+--     Crosses   unit vectors have nearly the length one, cross products are nearly at right angles
+--     Rows      the numbers of GEI, HCI and the solar axis
+--     Earth     no length that HEE or HEEQ divides by is 0
+--     Frames    each frame's rotation, and RTN's, hardly stretches a vector
 pub mod Choice
+pub mod Lengths
+pub mod Dots
+pub mod Norms
+pub mod Turns
+pub mod Crosses
 pub mod Rows
 pub mod Earth
+pub mod Frames

@@ -1,37 +1,35 @@
--- Document 01, "Checked examples": those of RTN and of refusal 5, and that GEI goes by the obliquity that decides and not by the
--- printed one. By computation on the definitions.
+-- Document 01, "Checked examples": those of RTN and of refusal 5 that have no star (the starred ones stand in `places`), and that GEI
+-- goes by the obliquity that decides and not by the printed one. By computation on the definitions.
 use mathlib.Core.Path.{_≡_, refl}
 use mathlib.Core.List.{List, [], _∷_}
 use lib.IntN.{ℤ, pos, negsuc}
+use Rattle.integers.specs.Triple.{at, zeros}
+use Rattle.integers.specs.Floor.{endTurn}
 use Rattle.integers.specs.Root.{rootFrom, rootOf}
 use Rattle.angles.specs.Unit.{oneTurn}
-use Rattle.angles.specs.Entry.{factorial, part, whole, term, plus, minus, entry}
+use Rattle.angles.specs.Entry.{factorial, part, whole, term, plusTerms, minusTerms, entry}
 use Rattle.angles.specs.Sine.{quarterSine, halfSine, sineOf, cosineOf}
 use Rattle.refusals.specs.declared.Refusal.the-variants.{TooFar, NoDirection}
 use Rattle.frames.specs.declared.Turned.the-variants.{Vector, Refused}
-use Rattle.frames.specs.Vector.{at, rowAt, zeros, applied, lengthOf, unitOf, crossOf}
+use Rattle.frames.specs.Vector.{rowAt, applied, lengthOf, unitOf, crossOf}
 use Rattle.frames.specs.Frame.{geiRows, hciRows, solarAxis}
-use Rattle.frames.specs.Answer.{placeOf, statusOf}
+use Rattle.frames.specs.Answer.{asCoordinates, turnedStatus}
 use Rattle.frames.specs.Rtn.{rtnRows, rtnTurned, toRtn, fromRtn}
 
 -- (x, 0, 0)
 abbrev along : ℤ → List ℤ
 along x = x ∷ pos 0 ∷ pos 0 ∷ []
 
-pub radial-stays : toRtn (along (pos 10000000)) (along (pos 10000000)) ≡ Vector (placeOf (along (pos 10000000)))
-unfolding toRtn rtnTurned rtnRows applied lengthOf unitOf crossOf solarAxis hciRows rootOf rootFrom cosineOf sineOf oneTurn halfSine quarterSine entry plus minus term whole part factorial
-radial-stays = refl
-
-pub radial-comes-back : fromRtn (along (pos 10000000)) (along (pos 10000000)) ≡ Vector (placeOf (along (pos 10000000)))
-unfolding fromRtn rtnTurned rtnRows applied lengthOf unitOf crossOf solarAxis hciRows rootOf rootFrom cosineOf sineOf oneTurn halfSine quarterSine entry plus minus term whole part factorial
+pub radial-comes-back : fromRtn (along (pos 10000000)) (along (pos 10000000)) ≡ Vector (asCoordinates (along (pos 10000000)))
+unfolding fromRtn rtnTurned rtnRows applied endTurn lengthOf unitOf crossOf solarAxis hciRows rootOf rootFrom cosineOf sineOf oneTurn halfSine quarterSine entry plusTerms minusTerms term whole part factorial
 radial-comes-back = refl
 
 pub no-place : toRtn zeros (along (pos 10000000)) ≡ Refused NoDirection
-unfolding toRtn rtnTurned rtnRows applied lengthOf unitOf crossOf solarAxis hciRows rootOf rootFrom cosineOf sineOf oneTurn halfSine quarterSine entry plus minus term whole part factorial
+unfolding toRtn rtnTurned rtnRows applied endTurn lengthOf unitOf crossOf solarAxis hciRows rootOf rootFrom cosineOf sineOf oneTurn halfSine quarterSine entry plusTerms minusTerms term whole part factorial
 no-place = refl
 
-pub limit-accepted : statusOf (toRtn (along (pos 10000000)) (along (pos 500000000))) ≡ pos 0
-unfolding toRtn rtnTurned rtnRows applied lengthOf unitOf crossOf solarAxis hciRows rootOf rootFrom cosineOf sineOf oneTurn halfSine quarterSine entry plus minus term whole part factorial
+pub limit-accepted : turnedStatus (toRtn (along (pos 10000000)) (along (pos 500000000))) ≡ pos 0
+unfolding toRtn rtnTurned rtnRows applied endTurn lengthOf unitOf crossOf solarAxis hciRows rootOf rootFrom cosineOf sineOf oneTurn halfSine quarterSine entry plusTerms minusTerms term whole part factorial
 limit-accepted = refl
 
 pub beyond-refused : toRtn (along (pos 10000000)) (along (pos 500000001)) ≡ Refused TooFar
@@ -44,9 +42,9 @@ beyond-below-refused = refl
 
 -- one entry of GEI: the cosine of 23,439,291, and not that of 23°43'28"
 pub obliquity-decides : at (rowAt geiRows 1) 1 ≡ pos 917481729
-unfolding geiRows cosineOf sineOf oneTurn halfSine quarterSine entry plus minus term whole part factorial
+unfolding geiRows cosineOf sineOf oneTurn halfSine quarterSine entry plusTerms minusTerms term whole part factorial
 obliquity-decides = refl
 
 pub printed-obliquity : cosineOf (pos 23724444) ≡ pos 915490770
-unfolding cosineOf sineOf oneTurn halfSine quarterSine entry plus minus term whole part factorial
+unfolding cosineOf sineOf oneTurn halfSine quarterSine entry plusTerms minusTerms term whole part factorial
 printed-obliquity = refl

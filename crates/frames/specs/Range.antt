@@ -1,14 +1,12 @@
--- The ranges that the functions between the crates ask for, each one record.
+-- Terms of inner contracts: the ranges within which a turn overflows nowhere.
 use mathlib.Core.List.{List}
-use Prim.Native.Nat.{ℕ, _+_, _*_, _^_, _<_}
-use lib.IntN.{ℤ, pos, natAbs}
-use lib.Signed.{_≤ℤ_}
+use Prim.Native.Nat.{ℕ, _+_, _*_, _^_, _≤_, _<_}
+use lib.Dec.{T}
+use lib.IntN.{ℤ, natAbs}
 use Rattle.integers.specs.Range.{Within}
-use Rattle.frames.specs.Vector.{at, rowAt}
-
--- each part of v lies from -n to n
-pub record PartsWithin (n : ℕ) (v : List ℤ) : Type 0 where
-  pub part : (i : ℕ) → Within n (at v i)
+use Rattle.integers.specs.Triple.{at, PartsWithin}
+use Rattle.frames.specs.Vector.{rowAt, squareOf, squaresOf}
+use Rattle.frames.specs.Frame.{needsEarth}
 
 -- the products of a and v, and their sum, fit 64 bits
 pub record DotFits (a v : List ℤ) : Type 0 where
@@ -20,12 +18,16 @@ pub record TurnFits (m : List (List ℤ)) (v : List ℤ) : Type 0 where
   pub second : DotFits (rowAt m 1) v
   pub third : DotFits (rowAt m 2) v
 
--- "1 HAE of J2000; 2 GEI of J2000; 3 HCI; 4 HEE; 5 HEEQ"
-pub record KnownFrame (f : ℤ) : Type 0 where
-  pub low : pos 1 ≤ℤ f
-  pub high : f ≤ℤ pos 5
+-- v is no longer than n
+pub record NoLonger (n : ℕ) (v : List ℤ) : Type 0 where
+  pub squares : squaresOf v ≤ n * n
 
--- those that have rows: "Each of 2 to 5 is an array of three rows"
-pub record HasRows (f : ℤ) : Type 0 where
-  pub low : pos 2 ≤ℤ f
-  pub high : f ≤ℤ pos 5
+-- a place like the Earth's: 0.93 au or more from the Sun in x and y, and 0.025 au or less off the ecliptic
+pub record NearEcliptic (earth : List ℤ) : Type 0 where
+  pub away : 9300000 * 9300000 ≤ squareOf (at earth 0) + squareOf (at earth 1)
+  pub low : Within 250000 (at earth 2)
+
+-- what frame f asks of the Earth's place: only HEE and HEEQ go by it
+pub record EarthFits (f : ℤ) (earth : List ℤ) : Type 0 where
+  pub parts : PartsWithin 1000000000 earth
+  pub near : T (needsEarth f) → NearEcliptic earth

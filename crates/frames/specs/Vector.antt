@@ -4,18 +4,13 @@ use mathlib.Core.List.{List, [], _∷_}
 use Prim.Native.Nat.{ℕ, zero, suc, _+_, _*_}
 use lib.ListN.{getD}
 use lib.IntN.{ℤ, pos, natAbs, _+ℤ_, _-ℤ_, _*ℤ_}
+use Rattle.integers.specs.Triple.{at, zeros}
 use Rattle.integers.specs.Floor.{floorDiv, endTurn}
 use Rattle.integers.specs.Root.{rootOf}
 
--- part i of a vector, and row i of a rotation, counted from 0
-abbrev pub at : List ℤ → ℕ → ℤ
-at v i = getD v i (pos 0)
-
+-- row i of a rotation, counted from 0
 abbrev pub rowAt : List (List ℤ) → ℕ → List ℤ
 rowAt m i = getD m i []
-
-abbrev pub zeros : List ℤ
-zeros = pos 0 ∷ pos 0 ∷ pos 0 ∷ []
 
 -- "the row's sum of products"
 abbrev pub dotOf : List ℤ → List ℤ → ℤ
@@ -33,7 +28,7 @@ abbrev pub transposed : List (List ℤ) → List (List ℤ)
 transposed m = columnOf m 0 ∷ columnOf m 1 ∷ columnOf m 2 ∷ []
 
 -- the rows of a turn there, or back
-abbrev pub wayOf : Bool → List (List ℤ) → List (List ℤ)
+abbrev pub wayOf : (back : Bool) → List (List ℤ) → List (List ℤ)
 wayOf false m = m
 wayOf true m = transposed m
 

@@ -5,24 +5,25 @@ ghost use Prim.Native.Nat.{_≤_};
 ghost use lib.IntN.{pos, natAbs, _*ℤ_};
 ghost use lib.Signed.{_<ℤ_};
 ghost use Rattle.integers.specs.Range.{Within};
+ghost use Rattle.integers.specs.Triple.{PartsWithin};
 ghost use Rattle.integers.specs.Floor.{floorDiv};
-ghost use Rattle.frames.specs.Range.{PartsWithin, DotFits, TurnFits, KnownFrame, HasRows};
+ghost use Rattle.frames.specs.Range.{DotFits, TurnFits, NoLonger, EarthFits};
 ghost use Rattle.frames.specs.Vector.{dotOf, applied, columnOf, transposed, wayOf, squareOf, lengthOf, overLength, unitOf, crossPart, crossOf};
-ghost use Rattle.frames.specs.Frame.{geiRows, hciRows, solarAxis, onEcliptic, heeRows, heeqRows, rotationOf, haeTurned, turnedBetween};
-ghost use Rattle.frames.specs.Answer.{partInReach, inReach, placeOf};
+ghost use Rattle.frames.specs.Frame.{KnownFrame, isFrame, HasRows, needsEarth, geiRows, hciRows, solarAxis, onEcliptic, heeRows, heeqRows, rotationOf, haeTurned, turnedBetween};
+ghost use Rattle.frames.specs.Answer.{partInLimits, inLimits, asCoordinates};
 ghost use Rattle.frames.specs.Rtn.{rtnOf, rtnTurned, toRtn, fromRtn};
 use refusals::Refusal;
 
 // Three coordinates. A struct, since an enum holds no array.
-pub struct Place {
+pub struct Coordinates {
     pub x: i64,
     pub y: i64,
     pub z: i64,
 }
 
-// A turned vector, or refusal 5 or 6.
+// A turned vector, or the refusal: 5 or 6 of RTN; 1, 2, 4 or 5 of a turn on a date.
 pub enum Turned {
-    Vector(Place),
+    Vector(Coordinates),
     Refused(Refusal),
 }
 
@@ -220,11 +221,25 @@ pub fn rotation(frame: i64, earth: [i64; 3]) -> [[i64; 3]; 3]
     heeq(earth)
 }
 
-// A vector of HAE in a frame, or back. Its parts may be those that a turn to HAE gives.
+// Whether there is a frame of this number.
+pub fn is_frame(frame: i64) -> bool
+    ensures { λ r. ⌜ r ≡ isFrame frame ⌝ }
+{
+    integers::is_from_to(1, 5, frame)
+}
+
+// Whether a frame goes by the Earth's place: HEE and HEEQ do.
+pub fn needs_earth(frame: i64) -> bool
+    ensures { λ r. ⌜ r ≡ needsEarth frame ⌝ }
+{
+    integers::is_from_to(4, 5, frame)
+}
+
+// A vector of HAE in a frame, or back. It may be one that a turn to HAE gives.
 fn hae_turned(back: bool, frame: i64, earth: [i64; 3], v: [i64; 3]) -> [i64; 3]
     requires { ⌜ KnownFrame frame ⌝ }
-    requires { ⌜ PartsWithin 1000000000 earth ⌝ }
-    requires { ⌜ PartsWithin 3000000000 v ⌝ }
+    requires { ⌜ EarthFits frame earth ⌝ }
+    requires { ⌜ NoLonger 1732052000 v ⌝ }
     ensures { λ r. ⌜ r ≡ haeTurned back frame earth v ⌝ }
 {
     if frame == 1 {
@@ -235,9 +250,8 @@ fn hae_turned(back: bool, frame: i64, earth: [i64; 3], v: [i64; 3]) -> [i64; 3]
 
 // A vector of one frame in another, by way of HAE. A frame to itself leaves it unchanged.
 pub fn turned_between(from: i64, to: i64, earth: [i64; 3], v: [i64; 3]) -> [i64; 3]
-    requires { ⌜ KnownFrame from ⌝ }
-    requires { ⌜ KnownFrame to ⌝ }
-    requires { ⌜ PartsWithin 1000000000 earth ⌝ }
+    requires { ⌜ KnownFrame from × EarthFits from earth ⌝ }
+    requires { ⌜ KnownFrame to × EarthFits to earth ⌝ }
     requires { ⌜ PartsWithin 1000000000 v ⌝ }
     ensures { λ r. ⌜ r ≡ turnedBetween from to earth v ⌝ }
 {
@@ -248,32 +262,30 @@ pub fn turned_between(from: i64, to: i64, earth: [i64; 3], v: [i64; 3]) -> [i64;
 }
 
 // Whether a part of a given vector or place lies within 500,000,000 either way.
-fn part_in_reach(z: i64) -> bool
-    ensures { λ r. ⌜ r ≡ partInReach z ⌝ }
+fn part_in_limits(z: i64) -> bool
+    ensures { λ r. ⌜ r ≡ partInLimits z ⌝ }
 {
-    if z < -500_000_000 {
-        return false;
-    }
-    z <= 500_000_000
+    integers::is_from_to(-500_000_000, 500_000_000, z)
 }
 
 // Whether all three parts do.
-pub fn in_reach(v: [i64; 3]) -> bool
-    ensures { λ r. ⌜ r ≡ inReach v ⌝ }
+pub fn in_limits(v: [i64; 3]) -> bool
+    ensures { λ r. ⌜ r ≡ inLimits v ⌝ }
 {
-    if !part_in_reach(v[0]) {
+    if !part_in_limits(v[0]) {
         return false;
     }
-    if !part_in_reach(v[1]) {
+    if !part_in_limits(v[1]) {
         return false;
     }
-    part_in_reach(v[2])
+    part_in_limits(v[2])
 }
 
-fn place_of(v: [i64; 3]) -> Place
-    ensures { λ r. ⌜ r ≡ placeOf v ⌝ }
+// A vector as a struct.
+pub fn as_coordinates(v: [i64; 3]) -> Coordinates
+    ensures { λ r. ⌜ r ≡ asCoordinates v ⌝ }
 {
-    Place {
+    Coordinates {
         x: v[0],
         y: v[1],
         z: v[2],
@@ -293,10 +305,10 @@ fn rtn(radial: [i64; 3], tangential: [i64; 3]) -> [[i64; 3]; 3]
 fn rtn_turned(back: bool, r: [i64; 3], v: [i64; 3]) -> Turned
     ensures { λ t. ⌜ t ≡ rtnTurned back r v ⌝ }
 {
-    if !in_reach(v) {
+    if !in_limits(v) {
         return Turned::Refused(Refusal::TooFar);
     }
-    if !in_reach(r) {
+    if !in_limits(r) {
         return Turned::Refused(Refusal::TooFar);
     }
     let l = length(r);
@@ -310,7 +322,7 @@ fn rtn_turned(back: bool, r: [i64; 3], v: [i64; 3]) -> Turned
         return Turned::Refused(Refusal::NoDirection);
     }
     let rows = rtn(radial, over_length(k, across));
-    Turned::Vector(place_of(applied(way(rows, back), v)))
+    Turned::Vector(as_coordinates(applied(way(rows, back), v)))
 }
 
 // A vector of HAE as R, T, N parts at a spacecraft's place r in HAE.

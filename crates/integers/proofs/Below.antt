@@ -1,7 +1,7 @@
 -- A number z below zero by casts that lose nothing: -1 - z is not negative and fits, also for the least number.
 -- By the two forms of a signed number; z is -1 - k, and k + 1 is its size.
 use mathlib.Core.Path.{_≡_, ap, subst⁻¹, _∙_}
-use Prim.Native.Nat.{ℕ, _+_, _^_, _<_}
+use Prim.Native.Nat.{_+_, _^_, _<_}
 use native.Mathlib.Omega.{arith}
 use lib.Dec.{T}
 use lib.IntN.{ℤ, pos, negsuc, natAbs, _-ℤ_}

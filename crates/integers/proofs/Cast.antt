@@ -1,10 +1,9 @@
 -- What the machine reads back of a signed number, and its casts between signed and unsigned numbers of 64 bits.
 -- A signed local holds bits, so each use of a number z is `read z`; where z fits, that is z.
-use mathlib.Core.Path.{_≡_, refl, subst, subst⁻¹, sym, ap, _∙_}
+use mathlib.Core.Path.{_≡_, subst, subst⁻¹, sym, ap, _∙_}
 use Prim.Native.Nat.{ℕ, _^_, _<_}
-use native.Mathlib.Omega.{arith}
 use lib.Dec.{T}
-use lib.IntN.{ℤ, pos, negsuc, natAbs}
+use lib.IntN.{ℤ, pos, natAbs}
 use lib.Signed.{mag, nonNeg, _≤ℤ_, yes-nonNeg}
 use mir.Syntax.{w64}
 use mir.Val.{Fits, SFits, toZ, ofZ}

@@ -4,7 +4,7 @@ use Prim.Native.Nat.{ℕ, zero, suc, _+_, _*_, _-_, _^_, _<_, _≤_}
 use native.Mathlib.Omega.{arith}
 use mathlib.Core.Path.{_≡_, refl, sym, ap, subst}
 use mathlib.Core.Bool.{Bool, true, false, not, cond}
-use lib.Dec.{T, ltb, leb, ltb→lt, nltb→le, leb→le, nleb→lt, lt→ltb, le→leb}
+use lib.Dec.{T, ltb, ltb→lt, nltb→le, leb→le, nleb→lt, lt→ltb, le→leb}
 use lib.IntN.{ℤ, pos, negsuc, natAbs, negℤ, subℕ, _+ℤ_, _-ℤ_, _*ℤ_}
 use lib.Signed.{ltZ, leZ, _≤ℤ_, _<ℤ_}
 use mir.Syntax.{w64}
@@ -126,10 +126,6 @@ pub ruleset zarith = (arith, fits-d, d-fits, ltZ-true, leZ-true, ltZ-false, leZ-
 pub dn-zero : (z : ℤ) → dn z ≤ up z → dn z ≡ 0
 dn-zero (pos n) h = refl
 dn-zero (negsuc n) h = absurd (omega arith)
-
-pub up-zero : (z : ℤ) → up z ≤ dn z → up z ≡ 0
-up-zero (pos n) h = omega arith
-up-zero (negsuc n) h = refl
 
 pub up-less : (z : ℤ) (n : ℕ) → up z < dn z + n → 0 < n → up z < n
 up-less (pos z) n h p = omega arith

@@ -1,8 +1,8 @@
 -- The machine's division of a by d above 0: what it needs, and its quotient and rest as numbers, toward zero.
 -- The operands are read back (Cast), and the quotient and the rest fit since a does (Floor).
-use mathlib.Core.Path.{_≡_, refl, subst, sym, ap, _∙_}
+use mathlib.Core.Path.{_≡_, sym, _∙_}
 use mathlib.Core.Bool.{true, false}
-use Prim.Native.Nat.{ℕ, _<_}
+use Prim.Native.Nat.{_<_}
 use lib.IntN.{ℤ, pos, natAbs, _+ℤ_, _-ℤ_}
 use lib.Signed.{ltZ, quotZ, remZ, mag-rem, _≤ℤ_, _<ℤ_}
 use mir.Syntax.{w64}
@@ -10,7 +10,7 @@ use mir.Val.{SFits, ofZ}
 use mir.ValLaws.{sfits-le}
 use Rattle.integers.specs.Floor.{floorDiv, floorMod}
 use Rattle.integers.proofs.Difference.{zarith, eq-d}
-use Rattle.integers.proofs.Floor.{pos-abs, abs-pos, bits-pos, quot-fits, floor-fits, floor-by-pos, floor-by-neg}
+use Rattle.integers.proofs.Floor.{pos-abs, abs-pos, bits-pos, quot-fits, floor-by-pos, floor-by-neg}
 use Rattle.integers.proofs.Cast.{read, back}
 
 module _ (a d : ℤ) (fa : SFits w64 a) (fd : SFits w64 d) (pd : pos 0 <ℤ d) where

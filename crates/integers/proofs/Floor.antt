@@ -1,17 +1,17 @@
 -- Floor division by a number above 0: what it is, that it is the only one, what it leaves, and its bounds.
 -- The two sides of q m ≤ z < q m + m in the terms of Difference carry every other law.
-use Prim.Native.Nat.{ℕ, zero, suc, _+_, _*_, _-_, _/_, _%_, _^_, _<_, _≤_, suc-le-suc}
+use Prim.Native.Nat.{ℕ, zero, suc, _+_, _*_, _/_, _%_, _<_, _≤_}
 use native.Mathlib.Omega.{arith}
 use native.Mathlib.Nat as NatL
 use mathlib.Core.Path.{_≡_, refl, sym, _∙_, ap}
 use lib.Dec.{ltb→lt}
-use lib.IntN.{ℤ, pos, negsuc, negℤ, natAbs, _+ℤ_, _-ℤ_, _*ℤ_}
+use lib.IntN.{ℤ, pos, negsuc, natAbs, _+ℤ_, _-ℤ_, _*ℤ_}
 use lib.Signed.{quotZ, remZ, _≤ℤ_, _<ℤ_}
 use mir.Syntax.{w64}
 use mir.Val.{SFits, ofZ}
 use Rattle.integers.specs.Floor.{floorDiv, floorMod, IsFloor}
-use Rattle.integers.proofs.Difference.{up, dn, zarith, d-add, d-minus, d-mul, d-abs, lt-d, up-neg, dn-neg, dn-zero, up-less}
-use Rattle.integers.proofs.Ring.{minus-plus, split-product, abs-neg, *ℤ-distrib-r, +ℤ-left-comm}
+use Rattle.integers.proofs.Difference.{up, dn, zarith, d-add, d-minus, d-mul, lt-d, up-neg, dn-neg, dn-zero, up-less}
+use Rattle.integers.proofs.Ring.{minus-plus, split-product, abs-neg, *ℤ-distrib-r}
 
 -- ---- a divisor above 0
 pub pos-abs : (d : ℤ) → pos 0 <ℤ d → pos (natAbs d) ≡ d
@@ -113,6 +113,23 @@ mod-shift z k m =
 pub div-mono : {x y : ℕ} (k : ℕ) → x ≤ y → x / k ≤ y / k
 div-mono {x} {y} zero h = omega (arith, NatL.div-zero x, NatL.div-zero y)
 div-mono {x} {y} (suc k) h = NatL.le-div-iff-mul-le (NatL.zero-lt-suc k) .1 (omega (arith, NatL.div-mul-le-self x (suc k)))
+
+-- a floor holds at least as many divisors as its number
+pub floor-least : (z : ℤ) (m k : ℕ) → k * suc m ≤ natAbs z → k ≤ natAbs (floorDiv z (suc m))
+floor-least (pos a) m k h = NatL.le-div-iff-mul-le (NatL.zero-lt-suc m) .1 h
+floor-least (negsuc a) m zero h = omega arith
+floor-least (negsuc a) m (suc k) h =
+    let l : k * suc m ≤ a = omega arith in
+    omega (arith, NatL.le-div-iff-mul-le (NatL.zero-lt-suc m) .1 l)
+
+-- a larger number has no smaller floor
+pub floor-mono : (y z : ℤ) (m : ℕ) → 0 < m → y ≤ℤ z → floorDiv y m ≤ℤ floorDiv z m
+floor-mono y z zero p h = absurd (omega arith)
+floor-mono y z (suc m) p h =
+    let f = floorDiv y (suc m) in
+    let g = floorDiv z (suc m) in
+    let x : up f + dn g < suc (up g + dn f) = NatL.lt-of-mul-lt-mul-right (suc m) (omega (zarith, h, floor-low y m, floor-high z m)) in
+    omega zarith
 
 pub floor-fits : (z : ℤ) (m : ℕ) → SFits w64 z → SFits w64 (floorDiv z m)
 floor-fits (pos a) m f = record { sfits = omega (arith, f .sfits, NatL.div-le-self a m) }

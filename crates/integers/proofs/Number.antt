@@ -1,10 +1,10 @@
 -- What the machine holds, as a number with a bound: `Num x z n` says that x, read back by the machine, is z, and |z| ≤ n.
 -- An operation of two such is such a one, and fits where the bounds' product or sum is below 2^63, which computes: `tt`.
-use Prim.Native.Nat.{ℕ, zero, suc, _+_, _*_, _/_, _^_, _<_, _≤_, suc-le-suc}
+use Prim.Native.Nat.{ℕ, zero, suc, _+_, _*_, _/_, _^_, _<_, _≤_}
 use native.Mathlib.Omega.{arith}
 use native.Mathlib.Nat as NatL
 use native.Mathlib.Nat.{le-refl}
-use mathlib.Core.Path.{_≡_, refl, sym, _∙_, ap, subst}
+use mathlib.Core.Path.{_≡_, refl, sym, _∙_, subst}
 use lib.Dec.{T, ltb, leb, ltb→lt, leb→le, le→leb}
 use lib.IntN.{ℤ, pos, negsuc, negℤ, natAbs, _+ℤ_, _-ℤ_, _*ℤ_}
 use mathlib.Core.Bool.{true, false}
@@ -12,10 +12,10 @@ use lib.Signed.{mag, nonNeg, ltZ, leZ, _≤ℤ_, _<ℤ_}
 use mir.Syntax.{w64}
 use mir.Val.{Fits, SFits, toZ}
 use Rattle.integers.specs.Range.{Within, ProductFits, SplitFits}
-use Rattle.integers.specs.Floor.{floorDiv, floorMod, unitProduct}
-use Rattle.integers.proofs.Difference.{d-abs, zarith, eq-d}
+use Rattle.integers.specs.Floor.{floorDiv, unitProduct}
+use Rattle.integers.proofs.Difference.{zarith, eq-d}
 use Rattle.integers.proofs.Ring.{abs-mul-le, abs-add-le, abs-sub-le, abs-neg}
-use Rattle.integers.proofs.Floor.{mod-low, mod-high, quot-abs, rem-small, div-mono}
+use Rattle.integers.proofs.Floor.{div-mono}
 use Rattle.integers.proofs.Cast.{read, back, fits₂, val₂, cast-fits, of-nat}
 
 -- ---- bounds, with the numbers inferred from the facts
@@ -55,9 +55,6 @@ w-floor< {n = n} (suc m) k h p l = w-floor m k p (le→leb n (k * suc m) l)
 pub w-floor-any : {a : ℤ} {n : ℕ} (m : ℕ) → Within n a → Within n (floorDiv a m)
 w-floor-any {a = pos a} m p = record { within = omega (arith, p .within, NatL.div-le-self a m) }
 w-floor-any {a = negsuc a} m p = record { within = omega (arith, p .within, NatL.div-le-self a m) }
-
-pub w-mod : (a : ℤ) (m : ℕ) → Within m (floorMod a (suc m))
-w-mod a m = record { within = omega (arith, d-abs (floorMod a (suc m)), mod-low a m, mod-high a m) }
 
 abs-fits : (z : ℤ) → natAbs z < 2 ^ 63 → SFits w64 z
 abs-fits (pos n) h = record { sfits = h }
@@ -103,10 +100,6 @@ lit z = record { is = refl; small = w-lit z }
 -- the result of a call, or a value out of memory
 pub got : {x z : ℤ} {n : ℕ} → mag x < 2 ^ 63 → x ≡ z → Within n z → Num (read x) z n
 got {x} f e w = record { is = back x (record { sfits = f }) ∙ e; small = w }
-
--- a better bound; another form of the number
-pub with-bound : {x z : ℤ} {m n : ℕ} → Num x z m → Within n z → Num x z n
-with-bound p w = record { is = p .is; small = w }
 
 pub also : {x z z′ : ℤ} {n : ℕ} → Num x z n → z ≡ z′ → Num x z′ n
 also {n = n} p e = record { is = p .is ∙ e; small = subst (Within n) e (p .small) }

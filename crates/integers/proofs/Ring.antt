@@ -1,13 +1,17 @@
 -- The ring's laws on ℤ, for `simp ring`, and differences of two naturals, `subℕ a b`, which is a - b.
 -- Products become products of the sides (Difference), and omega multiplies them out.
-use Prim.Native.Nat.{ℕ, zero, suc, _+_, _*_, _-_, _<_, _≤_}
+use Prim.Native.Nat.{ℕ, suc, _+_, _*_, _-_, _<_, _≤_}
 use native.Mathlib.Omega.{arith}
 use native.Mathlib.Nat as NatL
 use mathlib.Core.Path.{_≡_, refl, sym, _∙_, ap}
 use lib.IntN.{ℤ, pos, negsuc, natAbs, negℤ, subℕ, _+ℤ_, _-ℤ_, _*ℤ_, +ℤ-assoc, +ℤ-comm, *ℤ-comm}
-use lib.Signed.{_≤ℤ_, _<ℤ_}
+use lib.Dec.{leb}
+use lib.Signed.{leZ, _≤ℤ_, _<ℤ_, clashℤ}
+use native.Mathlib.Decide.{decLt}
+use borrow.Author.Tests.{le-leb, lt-leb}
 use Rattle.integers.specs.Range.{apart}
-use Rattle.integers.proofs.Difference.{up, dn, zarith, d-sub, d-add, d-minus, d-mul, d-abs, abs-d, ext, d-le, d-lt, up-neg, dn-neg}
+use Rattle.integers.proofs.Table.{yes as yes-true, no as no-false}
+use Rattle.integers.proofs.Difference.{up, dn, zarith, d-sub, d-add, d-minus, d-mul, d-abs, abs-d, ext, d-le, d-lt, up-neg, dn-neg, le-d}
 
 pub *ℤ-distrib-l : (a b c : ℤ) → a *ℤ (b +ℤ c) ≡ a *ℤ b +ℤ a *ℤ c
 *ℤ-distrib-l a b c =
@@ -37,6 +41,21 @@ split-product x y u v q s d e f = rw (← e, ← f) (simp ring)
 
 pub zero-minus : (z : ℤ) → pos 0 -ℤ z ≡ negℤ z
 zero-minus z = ext (pos 0 -ℤ z) (negℤ z) (omega (arith, d-minus (pos 0) z, up-neg z, dn-neg z))
+
+-- ---- minus signs
+pub neg-mul : (x y : ℤ) → negℤ x *ℤ y ≡ negℤ (x *ℤ y)
+neg-mul x y =
+    omega (zarith, d-mul (negℤ x) y, ap (λ (n : ℕ). n * up y) (up-neg x), ap (λ (n : ℕ). n * dn y) (up-neg x), ap (λ (n : ℕ). n * up y) (dn-neg x), ap (λ (n : ℕ). n * dn y) (dn-neg x), d-mul x y, up-neg (x *ℤ y), dn-neg (x *ℤ y))
+
+pub mul-neg : (x y : ℤ) → x *ℤ negℤ y ≡ negℤ (x *ℤ y)
+mul-neg x y = *ℤ-comm x (negℤ y) ∙ neg-mul y x ∙ ap negℤ (*ℤ-comm y x)
+
+-- ---- order
+pub pos-mono : (r : ℕ) (a b : ℤ) → a ≤ℤ b → (pos r *ℤ a) ≤ℤ (pos r *ℤ b)
+pos-mono r a b h = omega (zarith, NatL.mul-le-mul-left r (le-d a b h), d-mul (pos r) a, d-mul (pos r) b)
+
+pub neg-anti : (r : ℕ) (a b : ℤ) → a ≤ℤ b → (negsuc r *ℤ b) ≤ℤ (negsuc r *ℤ a)
+neg-anti r a b h = omega (zarith, NatL.mul-le-mul-left (suc r) (le-d a b h), d-mul (negsuc r) a, d-mul (negsuc r) b)
 
 -- ---- magnitudes
 pub abs-neg : (z : ℤ) → natAbs (negℤ z) ≡ natAbs z
@@ -86,3 +105,11 @@ sub-mono d a b h = d-le (subℕ a d) (subℕ b d) (omega (arith, d-sub a d, d-su
 
 pub sub-less : (d a b : ℕ) → a < b → subℕ a d <ℤ subℕ b d
 sub-less d a b h = d-lt (subℕ a d) (subℕ b d) (omega (arith, d-sub a d, d-sub b d))
+
+-- the test of two differences is that of the naturals
+pub sub-test : (d a b : ℕ) → leZ (subℕ a d) (subℕ b d) ≡ leb a b
+sub-test d a b = go (decLt b a)
+  where
+    go : Dec (b < a) → leZ (subℕ a d) (subℕ b d) ≡ leb a b
+    go (yes l) = no-false (leZ (subℕ a d) (subℕ b d)) (λ t. clashℤ (sub-less d b a l) (record { le = t })) ∙ sym (lt-leb a b l)
+    go (no l) = yes-true (leZ (subℕ a d) (subℕ b d)) (sub-mono d a b (omega arith) .le) ∙ sym (le-leb a b (omega arith))

@@ -1,17 +1,15 @@
 -- The two faces of the square root are one: `rootOf` computes the greatest number whose square is not above x.
 -- The bits fixed so far give r with r² ≤ x < (r + 2^k)²; each further bit halves the gap, and at k = 0 it is 1.
-use mathlib.Core.Path.{_≡_, refl, subst, sym}
-use mathlib.Core.Bool.{Bool, true, false}
+use mathlib.Core.Path.{_≡_, refl}
+use mathlib.Core.Bool.{Bool, true, false, cond}
 use Prim.Native.Nat.{ℕ, zero, suc, _+_, _*_, _^_, _≤_, _<_}
 use native.Mathlib.Omega.{arith}
-use native.Mathlib.Nat.{mul-le-mul, pow-suc}
+use native.Mathlib.Nat.{pow-suc}
 use native.Mathlib.Decide.{decLt}
 use lib.Dec.{leb}
 use borrow.Author.Tests.{leb-true, leb-false}
-use Rattle.integers.specs.Root.{IsRoot, pick, rootFrom, rootOf}
-
-pub square-mono : (k m : ℕ) → k ≤ m → k * k ≤ m * m
-square-mono k m h = mul-le-mul h h
+use Rattle.integers.specs.Root.{IsRoot, rootFrom, rootOf}
+use Rattle.integers.proofs.Squares.{square-mono, from-squares}
 
 -- r² ≤ x < (r + 1)² is the greatest
 pub root-by : (x r : ℕ) → r * r ≤ x → x < (r + 1) * (r + 1) → IsRoot x r
@@ -39,7 +37,7 @@ from-is (suc k) r x h l = go (leb ((r + 2 ^ k) * (r + 2 ^ k)) x) refl (from-is k
     wide : x < (r + 2 ^ k + 2 ^ k) * (r + 2 ^ k + 2 ^ k)
     wide = let m = rw (double k) at l in omega arith
 
-    go : (b : Bool) → leb ((r + 2 ^ k) * (r + 2 ^ k)) x ≡ b → ((r + 2 ^ k) * (r + 2 ^ k) ≤ x → x < (r + 2 ^ k + 2 ^ k) * (r + 2 ^ k + 2 ^ k) → IsRoot x (rootFrom k (r + 2 ^ k) x)) → (x < (r + 2 ^ k) * (r + 2 ^ k) → IsRoot x (rootFrom k r x)) → IsRoot x (rootFrom k (pick b (r + 2 ^ k) r) x)
+    go : (b : Bool) → leb ((r + 2 ^ k) * (r + 2 ^ k)) x ≡ b → ((r + 2 ^ k) * (r + 2 ^ k) ≤ x → x < (r + 2 ^ k + 2 ^ k) * (r + 2 ^ k + 2 ^ k) → IsRoot x (rootFrom k (r + 2 ^ k) x)) → (x < (r + 2 ^ k) * (r + 2 ^ k) → IsRoot x (rootFrom k r x)) → IsRoot x (rootFrom k (cond b (r + 2 ^ k) r) x)
     go true e set unset = set (leb-true ((r + 2 ^ k) * (r + 2 ^ k)) x e) wide
     go false e set unset = unset (leb-false ((r + 2 ^ k) * (r + 2 ^ k)) x e)
 
@@ -54,3 +52,7 @@ root-small x r h l = go (decLt 4294967295 r)
     go : Dec (4294967295 < r) → r ≤ 4294967295
     go (yes d) = let q = square-mono 4294967296 r d in absurd (omega arith)
     go (no d) = omega arith
+
+-- the root of a number that is not above the square of m is at most m
+pub root-most : (x r m : ℕ) → r * r ≤ x → x ≤ m * m → r ≤ m
+root-most x r m h l = from-squares r m (omega arith)

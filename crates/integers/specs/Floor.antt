@@ -1,5 +1,5 @@
 -- Document 01, "Counts used": "floor" is toward minus infinity, and `a∘b` is floor(a·b / 10^9).
-use Prim.Native.Nat.{ℕ, _/_}
+use Prim.Native.Nat.{ℕ, _*_, _/_}
 use lib.IntN.{ℤ, pos, negsuc, _+ℤ_, _-ℤ_, _*ℤ_}
 use lib.Signed.{_≤ℤ_, _<ℤ_}
 
@@ -22,6 +22,10 @@ abbrev pub unitProduct : ℤ → ℤ → ℤ
 unitProduct a b = floorDiv (a *ℤ b) 1000000000
 
 -- the division by 10^9 that ends a turn and step 5 (01, "From date to place", step 5, and "Frames"). It has a name of its own, apart
--- from `∘`, since it is rounded by a rule of its own
-abbrev pub endTurn : ℤ → ℤ
+-- from `∘`, since it is rounded by a rule of its own; proofs cite its two laws (proofs/Ends.antt), not this text
+unfoldable pub endTurn : ℤ → ℤ
 endTurn z = floorDiv z 1000000000
+
+-- floor(a / k + 1/2): a / k to the nearest whole number
+abbrev pub rounded : ℤ → ℕ → ℤ
+rounded a k = floorDiv (pos 2 *ℤ a +ℤ pos k) (2 * k)

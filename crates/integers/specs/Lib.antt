@@ -1,7 +1,8 @@
--- What the contracts of `integers` cite: ranges, floor division, the product over 10^9, the whole square root; and two definitions
--- that several crates cite: a number by its sign and size, and bytes put into others.
+-- What the contracts of `integers` cite: ranges, floor division, the product over 10^9, the whole square root; and definitions
+-- that several crates cite: a number by its sign and size, triples of numbers, bytes in a buffer.
 pub mod Range
 pub mod Floor
 pub mod Root
 pub mod Sign
+pub mod Triple
 pub mod Buffer

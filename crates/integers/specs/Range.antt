@@ -1,6 +1,17 @@
 -- Ranges of whole numbers, each a record, so that a proof can infer the bound from it.
+use mathlib.Core.Bool.{Bool, _&&_}
 use Prim.Native.Nat.{ℕ, _+_, _-_, _*_, _/_, _^_, _≤_, _<_}
 use lib.IntN.{ℤ, natAbs}
+use lib.Signed.{leZ, _≤ℤ_}
+
+-- "a to b": z is one of the whole numbers from a to b, both included
+pub record FromTo (a b z : ℤ) : Type 0 where
+  pub low : a ≤ℤ z
+  pub high : z ≤ℤ b
+
+-- the test of it
+abbrev pub isFromTo : ℤ → ℤ → ℤ → Bool
+isFromTo a b z = leZ a z && leZ z b
 
 -- z lies from -n to n
 pub record Within (n : ℕ) (z : ℤ) : Type 0 where

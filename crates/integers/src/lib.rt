@@ -1,13 +1,22 @@
-// Whole-number arithmetic: a number's size and sign, floor division of signed numbers, floor(a b / d) where the product does not
-// fit 64 bits, the product over 10^9, and the whole square root. The laws on signed numbers that other crates cite stand in proofs/.
+// Whole-number arithmetic: a number's range, size, sign and bits, floor division of signed numbers, floor(a b / d) where the product does
+// not fit 64 bits, the product over 10^9, and the whole square root. The laws on numbers that other crates cite stand in proofs/.
 ghost use mathlib.Core.Path.{_≡_};
 ghost use Prim.Native.Nat.{_≤_};
 ghost use lib.IntN.{pos, natAbs, _*ℤ_};
 ghost use lib.Signed.{_<ℤ_};
-ghost use Rattle.integers.specs.Range.{ProductFits, SplitFits};
+ghost use Rattle.integers.specs.Range.{isFromTo, ProductFits, SplitFits};
 ghost use Rattle.integers.specs.Floor.{floorDiv, floorMod, unitProduct, endTurn};
 ghost use Rattle.integers.specs.Root.{IsRoot, rootOf};
-ghost use Rattle.integers.specs.Sign.{signed, larger};
+ghost use Rattle.integers.specs.Sign.{signed, same};
+ghost use mir.Syntax.{w64};
+ghost use mir.Val.{ofZ, toZ};
+
+// Whether z is one of the whole numbers from a to b.
+pub fn is_from_to(a: i64, b: i64, z: i64) -> bool
+    ensures { λ r. ⌜ r ≡ isFromTo a b z ⌝ }
+{
+    (a <= z) & (z <= b)
+}
 
 // The size of any number: -1 - z is taken before the cast, since 0 - z overflows at the least number.
 pub fn size(z: i64) -> u64
@@ -25,11 +34,34 @@ pub fn with_sign(negative: bool, size: u64) -> i64
     if negative { 0 - n } else { n }
 }
 
-// The larger of two numbers.
-pub fn larger(a: i64, b: i64) -> i64
-    ensures { λ r. ⌜ r ≡ larger a b ⌝ }
+// Whether two numbers are one.
+pub fn are_same(a: i64, b: i64) -> bool
+    ensures { λ r. ⌜ r ≡ same a b ⌝ }
 {
-    if a < b { b } else { a }
+    a == b
+}
+
+// The 64 bits of z in two's complement: below zero, 2^64 less its size.
+pub fn bits_of(z: i64) -> u64
+    ensures { λ r. ⌜ r ≡ ofZ w64 z ⌝ }
+{
+    let size = size(z);
+    if 0 <= z {
+        size
+    } else {
+        0xffff_ffff_ffff_ffff - size + 1
+    }
+}
+
+// The signed number that has these 64 bits.
+pub fn of_bits(n: u64) -> i64
+    ensures { λ r. ⌜ r ≡ toZ w64 n ⌝ }
+{
+    if n < 0x8000_0000_0000_0000 {
+        n as i64
+    } else {
+        -1 - ((0xffff_ffff_ffff_ffff - n) as i64)
+    }
 }
 
 // floor(a / d). The machine divides toward zero; where that leaves a rest below zero, the floor is one less.

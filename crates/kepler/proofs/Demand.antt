@@ -2,71 +2,64 @@
 -- fall where M rises; no M is refused. Each theorem carries a law of rising functions to angles.
 use mathlib.Core.Path.{_≡_, refl, subst, sym, ap, _∙_}
 use mathlib.Core.Bool.{Bool, true, false}
-use mathlib.Core.Logic.{_⊎_, inl, inr}
-use Prim.Native.Nat.{ℕ, _+_, _-_, _*_, _<_, _≤_}
-use native.Mathlib.Nat.{zero-mul}
+use Prim.Native.Nat.{ℕ, _*_, _<_, _≤_}
 use native.Mathlib.Omega.{arith}
-use lib.Dec.{T, leb→le, leb}
-use lib.IntN.{ℤ, pos, negsuc, natAbs, _+ℤ_, _-ℤ_, _*ℤ_}
-use lib.Signed.{leZ, _≤ℤ_, _<ℤ_}
+use lib.IntN.{ℤ, pos, natAbs, _-ℤ_, _*ℤ_}
+use lib.Signed.{_≤ℤ_}
 use Rattle.integers.proofs.Difference.{zarith, d-mul, d-minus, d-abs}
 use Rattle.integers.proofs.Ring.{sub-mono}
+use Rattle.integers.proofs.Ranges.{is-inside, is-outside, inside-of, outside-of, range-size, range-most}
 use Rattle.angles.specs.Unit.{oneTurn, angleOf}
 use Rattle.angles.specs.Sine.{sineOf}
-use Rattle.angles.proofs.Turns.{one-turn-low, one-turn-high, one-turn-again, in-turn}
+use Rattle.angles.proofs.Turns.{one-turn-low, one-turn-high, one-turn-again}
 use Rattle.refusals.specs.declared.Refusal.the-variants.{NoEllipse}
-use Rattle.kepler.specs.Equation.{eStar, F, errorOf, HalfTurns, Elliptic, Solves}
+use Rattle.kepler.specs.Equation.{eStar, F, errorOf, Candidate, Elliptic, Solves}
 use Rattle.kepler.specs.Eccentric.{angleAt, lastBelow, nearerOf, eccentric}
-use Rattle.kepler.specs.Answer.{and, isElliptic, solvedIf, solvedOf}
-use Rattle.kepler.specs.Search.{raised, placeOf, Nearest}
-use Rattle.kepler.specs.declared.Solved.the-variants.{Anomaly, Refused}
-use Rattle.kepler.proofs.Rising.{monotone, only}
-use Rattle.kepler.proofs.Places.{star, star-small, rising, at-place, place-below, place-mono, high-pos, low-negsuc, solves, nearest-of}
-use Rattle.kepler.proofs.Halving.{Taken, taken}
+use Rattle.kepler.specs.Answer.{isElliptic, solvedIf, solvedOf, Answers}
+use Rattle.kepler.specs.Search.{raised, pointOf}
+use Rattle.kepler.specs.declared.AnomalyAnswer.the-variants.{Anomaly, Refused}
+use Rattle.kepler.proofs.Rising.{monotone}
+use Rattle.kepler.proofs.Grid.{star, star-small, rising, at-point, point-below, point-mono, solves, nearest-of}
+use Rattle.kepler.proofs.Halving.{taken}
 
--- an eccentricity as a number with no sign
-size : (e : ℤ) → Elliptic e → (n : ℕ) × (e ≡ pos n) × (n ≤ 90000000)
-size (pos n) h = (n, refl, leb→le n 90000000 (h .high .le))
-size (negsuc n) h = absurd (h .low .le)
-
--- a mean anomaly in one turn, and its place
-pub turned : (M : ℤ) → HalfTurns (oneTurn M)
+-- a mean anomaly in one turn, and its grid point
+pub turned : (M : ℤ) → Candidate (oneTurn M)
 turned M = record { low = one-turn-low M; high = let h = one-turn-high M in omega (zarith, h) }
 
-pub place-of-turn : (M : ℤ) → oneTurn M ≡ angleAt (placeOf (oneTurn M))
-place-of-turn M = sym (at-place (oneTurn M) (turned M))
+pub point-of-turn : (M : ℤ) → oneTurn M ≡ angleAt (pointOf (oneTurn M))
+point-of-turn M = sym (at-point (oneTurn M) (turned M))
 
-pub turn-below-end : (M : ℤ) → placeOf (oneTurn M) < 360000000
-turn-below-end M = place-below (oneTurn M) (one-turn-high M)
+pub turn-below-end : (M : ℤ) → pointOf (oneTurn M) < 360000000
+turn-below-end M = point-below (oneTurn M) (one-turn-high M)
 
 -- ---- the computing function solves
 solves-at : (e : ℕ) → e ≤ 90000000 → (M : ℤ) → Solves (pos e) M (eccentric (pos e) M)
 unfolding eccentric
 solves-at e h M =
-    let q = placeOf (oneTurn M) in
+    let q = pointOf (oneTurn M) in
     let t = taken (star e) q (star-small e h) (turn-below-end M) in
-    let s = solves e h M q (place-of-turn M) (t .place) (t .nearest) (t .near) in
-    subst (Solves (pos e) M) (sym (t .is) ∙ ap (λ (z : ℤ). nearerOf (pos (star e)) z (lastBelow (pos (star e)) z)) (sym (place-of-turn M))) s
+    let s = solves e h M q (point-of-turn M) (t .point) (t .nearest) (t .near) in
+    subst (Solves (pos e) M) (sym (t .is) ∙ ap (λ (z : ℤ). nearerOf (pos (star e)) z (lastBelow (pos (star e)) z)) (sym (point-of-turn M))) s
 
 pub eccentric-solves : (e M : ℤ) → Elliptic e → Solves e M (eccentric e M)
-eccentric-solves e M h = let p = size e h in subst (λ (z : ℤ). Solves z M (eccentric z M)) (sym (p .1)) (solves-at (p .0) (p .2) M)
+eccentric-solves e M h = subst (λ (z : ℤ). Solves z M (eccentric z M)) (range-size 0 e h) (solves-at (natAbs e) (range-most 0 e h) M)
 
 -- ---- of two mean anomalies within the turn the larger never gets the smaller answer
 rises-at : (e : ℕ) → e ≤ 90000000 → (M N A B : ℤ) → oneTurn M ≤ℤ oneTurn N → Solves (pos e) M A → Solves (pos e) N B → A ≤ℤ B
 rises-at e h M N A B l a b =
-    let p = nearest-of e h M (placeOf (oneTurn M)) (place-of-turn M) A a in
-    let q = nearest-of e h N (placeOf (oneTurn N)) (place-of-turn N) B b in
-    let o = place-mono (oneTurn M) (oneTurn N) (turned M) (turned N) l in
-    let m = monotone (raised (star e)) 360000000 (rising (star e) (star-small e h)) (1000000000 * placeOf (oneTurn M)) (1000000000 * placeOf (oneTurn N)) (placeOf A) (placeOf B) (omega arith) p q in
-    between A B (at-place A (a .within)) (at-place B (b .within)) (sub-mono 180000000 (placeOf A) (placeOf B) m)
+    let p = nearest-of e h M (pointOf (oneTurn M)) (point-of-turn M) A a in
+    let q = nearest-of e h N (pointOf (oneTurn N)) (point-of-turn N) B b in
+    let o = point-mono (oneTurn M) (oneTurn N) (turned M) (turned N) l in
+    let m = monotone (raised (star e)) 360000000 (rising (star e) (star-small e h)) (1000000000 * pointOf (oneTurn M)) (1000000000 * pointOf (oneTurn N)) (pointOf A) (pointOf B) (omega arith) p q in
+    between A B (at-point A (a .within)) (at-point B (b .within)) (sub-mono 180000000 (pointOf A) (pointOf B) m)
   where
-    between : (A B : ℤ) → angleAt (placeOf A) ≡ A → angleAt (placeOf B) ≡ B → angleAt (placeOf A) ≤ℤ angleAt (placeOf B) → A ≤ℤ B
-    between A B x y h = subst (λ (z : ℤ). z ≤ℤ B) x (subst (λ (z : ℤ). angleAt (placeOf A) ≤ℤ z) y h)
+    between : (A B : ℤ) → angleAt (pointOf A) ≡ A → angleAt (pointOf B) ≡ B → angleAt (pointOf A) ≤ℤ angleAt (pointOf B) → A ≤ℤ B
+    between A B x y h = subst (λ (z : ℤ). z ≤ℤ B) x (subst (λ (z : ℤ). angleAt (pointOf A) ≤ℤ z) y h)
 
 pub answers-rise : (e M N A B : ℤ) → Elliptic e → oneTurn M ≤ℤ oneTurn N → Solves e M A → Solves e N B → A ≤ℤ B
 answers-rise e M N A B h l a b =
-    let p = size e h in
-    rises-at (p .0) (p .2) M N A B l (subst (λ (z : ℤ). Solves z M A) (p .1) a) (subst (λ (z : ℤ). Solves z N B) (p .1) b)
+    let p = sym (range-size 0 e h) in
+    rises-at (natAbs e) (range-most 0 e h) M N A B l (subst (λ (z : ℤ). Solves z M A) p a) (subst (λ (z : ℤ). Solves z N B) p b)
 
 pub eccentric-rises : (e M N : ℤ) → Elliptic e → oneTurn M ≤ℤ oneTurn N → eccentric e M ≤ℤ eccentric e N
 eccentric-rises e M N h l = answers-rise e M N (eccentric e M) (eccentric e N) h l (eccentric-solves e M h) (eccentric-solves e N h)
@@ -84,26 +77,19 @@ pub error-below : (e M : ℤ) → Elliptic e → errorOf (eStar e) (oneTurn M) (
 error-below e M h = eccentric-solves e M h .near
 
 -- ---- no M is refused, and every other e is
-both : (a b : Bool) → T (and a b) → T a × T b
-both true b t = (tt, t)
-both false b t = absurd t
-
 pub none-refused : (e M : ℤ) → Elliptic e → solvedOf e M ≡ Anomaly (angleOf (eccentric e M))
-none-refused e M h = ap (λ (b : Bool). solvedIf b e M) (test (leZ (pos 0) e) (leZ e (pos 90000000)) (h .low .le) (h .high .le))
-  where
-    test : (a b : Bool) → T a → T b → and a b ≡ true
-    test true true s t = refl
-    test true false s t = absurd t
-    test false b s t = absurd s
+none-refused e M h = ap (λ (b : Bool). solvedIf b e M) (is-inside (pos 0) (pos 90000000) e h)
 
 pub refused-otherwise : (e M : ℤ) → (Elliptic e → ⊥) → solvedOf e M ≡ Refused NoEllipse
-refused-otherwise e M h = go (isElliptic e) refl
+refused-otherwise e M h = ap (λ (b : Bool). solvedIf b e M) (is-outside (pos 0) (pos 90000000) e h)
+
+-- the definition's answer is what document 01 asks for in its own words
+pub answers-as-asked : (e M : ℤ) → Answers e M (solvedOf e M)
+answers-as-asked e M = go (isElliptic e) refl
   where
-    go : (b : Bool) → isElliptic e ≡ b → solvedIf b e M ≡ Refused NoEllipse
-    go false x = refl
-    go true x =
-        let t = both (leZ (pos 0) e) (leZ e (pos 90000000)) (subst T (sym x) tt) in
-        absurd (h (record { low = record { le = t .0 }; high = record { le = t .1 } }))
+    go : (b : Bool) → isElliptic e ≡ b → Answers e M (solvedIf b e M)
+    go true x = let h = inside-of (pos 0) (pos 90000000) e x in (h, eccentric-solves e M h)
+    go false x = (refl, outside-of (pos 0) (pos 90000000) e x)
 
 -- ---- a circle: E is M
 no-error : (M E : ℤ) → E ≡ M → errorOf (pos 0) M E ≡ 0

@@ -1,36 +1,23 @@
--- The function that computes the eccentric anomaly finds the nearest place, so it solves the equation.
+-- The function that computes the eccentric anomaly finds the nearest grid point, so it solves the equation.
 -- Each halving keeps f lo ≤ target < f hi and halves the gap; 29 of them leave two neighbours, of which the nearer is taken.
 use mathlib.Core.Path.{_≡_, refl, subst, sym, ap, _∙_}
-use mathlib.Core.Bool.{Bool, true, false}
-use Prim.Native.Nat.{ℕ, zero, suc, _+_, _-_, _*_, _/_, _^_, _≤_, _<_}
-use native.Mathlib.Decide.{decLt}
+use mathlib.Core.Bool.{Bool, true, false, cond}
+use Prim.Native.Nat.{ℕ, zero, suc, _+_, _*_, _^_, _≤_, _<_}
 use native.Mathlib.Omega.{arith}
-use lib.Dec.{T, leb}
-use lib.IntN.{ℤ, pos, negsuc, subℕ, _+ℤ_, _*ℤ_}
-use lib.Signed.{leZ, _≤ℤ_, _<ℤ_, clashℤ}
-use borrow.Author.Tests.{leb-true, leb-false, le-leb, lt-leb}
+use lib.Dec.{leb}
+use lib.IntN.{ℤ, pos, _+ℤ_}
+use lib.Signed.{leZ}
+use borrow.Author.Tests.{leb-true, leb-false}
 use Rattle.integers.specs.Range.{apart}
-use Rattle.integers.specs.Sign.{choose}
 use Rattle.integers.proofs.Roots.{double}
-use Rattle.integers.proofs.Table.{yes as yes-true, no as no-false}
 use Rattle.integers.proofs.Difference.{zarith, d-sub, d-add}
-use Rattle.integers.proofs.Ring.{sub-mono, sub-less}
-use Rattle.angles.specs.Unit.{oneTurn}
-use Rattle.angles.proofs.Turns.{one-turn-low, one-turn-high}
-use Rattle.kepler.specs.Equation.{eStar, F, errorOf, HalfTurns, Solves}
-use Rattle.kepler.specs.Eccentric.{angleAt, middle, reaches, halved, lastBelow, nearerOf, eccentric}
-use Rattle.kepler.specs.Search.{raised, placeOf, Nearest}
-use Rattle.kepler.proofs.Rising.{Bracket, take-low, take-high, only}
-use Rattle.kepler.proofs.Raised.{raised-step, raised-zero, raised-end}
-use Rattle.kepler.proofs.Places.{F-at, scaled-at, error-at, star, star-small, rising, at-place, place-below, place-most, solves, nearest-of}
-
--- ---- the test at a place, as one of naturals
-sub-test : (d a b : ℕ) → leZ (subℕ a d) (subℕ b d) ≡ leb a b
-sub-test d a b = go (decLt b a)
-  where
-    go : Dec (b < a) → leZ (subℕ a d) (subℕ b d) ≡ leb a b
-    go (yes l) = no-false (leZ (subℕ a d) (subℕ b d)) (λ t. clashℤ (sub-less d b a l) (record { le = t })) ∙ sym (lt-leb a b l)
-    go (no l) = yes-true (leZ (subℕ a d) (subℕ b d)) (sub-mono d a b (omega arith) .le) ∙ sym (le-leb a b (omega arith))
+use Rattle.integers.proofs.Ring.{sub-test}
+use Rattle.kepler.specs.Equation.{errorOf}
+use Rattle.kepler.specs.Eccentric.{angleAt, middle, reaches, halved, lastBelow, nearerOf}
+use Rattle.kepler.specs.Search.{raised, Nearest}
+use Rattle.kepler.proofs.Rising.{Bracket, short, take-low, take-high}
+use Rattle.kepler.proofs.Climb.{raised-step, raised-zero, raised-end}
+use Rattle.kepler.proofs.Grid.{F-at, scaled-at, error-at, rising}
 
 module _ (es q : ℕ) (small : es ≤ 51566202) where
   abbrev f : ℕ → ℕ
@@ -46,24 +33,13 @@ module _ (es q : ℕ) (small : es ≤ 51566202) where
   abbrev In : ℕ → ℕ → Type 0
   In lo hi = Bracket f 360000000 t lo hi
 
-  -- two places at which f is apart are two
-  distinct : (a b : ℕ) → f a ≤ t → t < f b → a ≤ b → a < b
-  distinct a b x y h = go (decLt a b)
-    where
-      go : Dec (a < b) → a < b
-      go (yes l) = l
-      go (no l) =
-          let e : a ≡ b = omega arith in
-          let g : f a ≡ f b = ap f e in
-          absurd (omega arith)
-
   upper : (lo hi : ℕ) → In lo hi → leb (f (middle lo hi)) t ≡ true → In (middle lo hi) hi
   upper lo hi b e = record { order = omega arith; within = b .within; low = leb-true (f (middle lo hi)) t e; high = b .high }
 
   lower : (lo hi : ℕ) → In lo hi → leb (f (middle lo hi)) t ≡ false → In lo (middle lo hi)
   lower lo hi b e =
       let g = leb-false (f (middle lo hi)) t e in
-      record { order = distinct lo (middle lo hi) (b .low) g (omega arith); within = omega arith; low = b .low; high = g }
+      record { order = short f lo (middle lo hi) t (b .low) g (omega arith); within = omega arith; low = b .low; high = g }
 
   finds : (k : ℕ) (b : Bool) (lo hi : ℕ) → reaches (pos es) (angleAt q) (middle lo hi) ≡ b → In lo hi → hi ≤ lo + 2 ^ k → In (halved k b (pos es) (angleAt q) lo hi) (halved k b (pos es) (angleAt q) lo hi + 1)
   unfolding halved
@@ -92,20 +68,20 @@ module _ (es q : ℕ) (small : es ≤ 51566202) where
   next n = omega (zarith, d-add (angleAt n) (pos 1), d-sub n 180000000, d-sub (n + 1) 180000000)
 
   pub record Taken (E : ℤ) : Type 0 where
-    pub place : ℕ
-    pub is : E ≡ angleAt place
-    pub nearest : Nearest f 360000000 t place
-    pub near : apart t (f place) < 1000000000
+    pub point : ℕ
+    pub is : E ≡ angleAt point
+    pub nearest : Nearest f 360000000 t point
+    pub near : apart t (f point) < 1000000000
 
-  takes : (n : ℕ) → In n (n + 1) → (b : Bool) → leb (apart t (f n)) (apart t (f (n + 1))) ≡ b → Taken (choose b (angleAt n) (angleAt n +ℤ pos 1))
+  takes : (n : ℕ) → In n (n + 1) → (b : Bool) → leb (apart t (f n)) (apart t (f (n + 1))) ≡ b → Taken (cond b (angleAt n) (angleAt n +ℤ pos 1))
   takes n i true e =
       let s = raised-step es n small (omega (arith, i .within)) in
       let l = leb-true (apart t (f n)) (apart t (f (n + 1))) e in
-      record { place = n; is = refl; nearest = take-low f 360000000 (rising es small) t n (n + 1) i refl (omega (arith, i .low, i .high)); near = omega (arith, i .low, i .high, s .less) }
+      record { point = n; is = refl; nearest = take-low f 360000000 (rising es small) t n (n + 1) i refl (omega (arith, i .low, i .high)); near = omega (arith, i .low, i .high, s .less) }
   takes n i false e =
       let s = raised-step es n small (omega (arith, i .within)) in
       let l = leb-false (apart t (f n)) (apart t (f (n + 1))) e in
-      record { place = n + 1; is = next n; nearest = take-high f 360000000 (rising es small) t n (n + 1) i refl (omega (arith, i .low, i .high)); near = omega (arith, i .low, i .high, s .less) }
+      record { point = n + 1; is = next n; nearest = take-high f 360000000 (rising es small) t n (n + 1) i refl (omega (arith, i .low, i .high)); near = omega (arith, i .low, i .high, s .less) }
 
   nearer : (n : ℕ) → In n (n + 1) → Taken (nearerOf (pos es) (angleAt q) (angleAt n))
   unfolding nearerOf

@@ -1,7 +1,6 @@
--- Laws over any function that rises strictly from 0 to n: a bracket of two neighbours gives the nearest place, there is only one, and it does not fall.
+-- Laws over any function that rises strictly from 0 to n: a bracket of two neighbours gives the nearest grid point, there is only one, and it does not fall.
 -- A target nearer to the upper of two values lies above their middle; everything follows from that and from the rise.
-use mathlib.Core.Path.{_≡_, refl, subst, sym, ap, _∙_}
-use mathlib.Core.Logic.{_⊎_, inl, inr}
+use mathlib.Core.Path.{_≡_, ap}
 use Prim.Native.Nat.{ℕ, zero, suc, _+_, _-_, _≤_, _<_}
 use native.Mathlib.Numerals.{add-one}
 use native.Mathlib.Decide.{decLt}
@@ -43,7 +42,7 @@ pub record Bracket (f : ℕ → ℕ) (n target lo hi : ℕ) : Type 0 where
 module _ (f : ℕ → ℕ) (n : ℕ) (s : Rising f n) (target lo hi : ℕ) (b : Bracket f n target lo hi) (met : hi ≡ lo + 1) where
   -- the lower neighbour, where it is at least as near
   pub take-low : target - f lo ≤ f hi - target → Nearest f n target lo
-  take-low h = record { within = omega arith; best = λ k l. go k l (decLt lo k) .0; first = λ k l e. go k l (decLt lo k) .1 e }
+  take-low h = record { within = omega arith; best = λ k l. go k l (decLt lo k) .0; smallest = λ k l e. go k l (decLt lo k) .1 e }
     where
       go : (k : ℕ) → k ≤ n → Dec (lo < k) → (apart target (f lo) ≤ apart target (f k)) × (apart target (f k) ≡ apart target (f lo) → lo ≤ k)
       go k l (yes d) = let i = rises-le f n s k hi (omega arith) l in omega arith
@@ -55,7 +54,7 @@ module _ (f : ℕ → ℕ) (n : ℕ) (s : Rising f n) (target lo hi : ℕ) (b : 
 
   -- the upper neighbour, where it is nearer
   pub take-high : f hi - target < target - f lo → Nearest f n target hi
-  take-high h = record { within = omega arith; best = λ k l. go k l (decLt k hi) .0; first = λ k l e. go k l (decLt k hi) .1 e }
+  take-high h = record { within = omega arith; best = λ k l. go k l (decLt k hi) .0; smallest = λ k l e. go k l (decLt k hi) .1 e }
     where
       go : (k : ℕ) → k ≤ n → Dec (k < hi) → (apart target (f hi) ≤ apart target (f k)) × (apart target (f k) ≡ apart target (f hi) → hi ≤ k)
       go k l (yes d) = let i = rises-le f n s lo k (omega arith) (omega arith) in omega arith
@@ -74,7 +73,7 @@ monotone f n s t u p q h a b = go (decLt q p) (decLt (apart t (f p)) (apart t (f
   where
     go : Dec (q < p) → Dec (apart t (f p) < apart t (f q)) → p ≤ q
     go (no d) w = omega arith
-    go (yes d) (no w) = let x = a .best q (b .within) in a .first q (b .within) (omega arith)
+    go (yes d) (no w) = let x = a .best q (b .within) in a .smallest q (b .within) (omega arith)
     go (yes d) (yes w) =
         let r = rises f n s p q d (a .within) in
         let i = above t (f q) (f p) r w in
@@ -100,7 +99,7 @@ pub record Kept (f : ℕ → ℕ) (n target lo hi low high : ℕ) : Type 0 where
 pub bracket : (f : ℕ → ℕ) (n target lo hi low high : ℕ) → Kept f n target lo hi low high → Bracket f n target lo hi
 bracket f n target lo hi low high k = record { order = k .order; within = k .within; low = rw (k .at-low) at (k .under); high = rw (k .at-high) at (k .over) }
 
--- a place that is not past the upper end, and at which f is not past the target, lies below the upper end
+-- a grid point that is not past the upper end, and at which f is not past the target, lies below the upper end
 pub short : (f : ℕ → ℕ) (x hi t : ℕ) → f x ≤ t → t < f hi → x ≤ hi → x < hi
 short f x hi t a b h = go (decLt x hi)
   where

@@ -3,4 +3,3 @@ pub mod Equation
 pub mod Eccentric
 pub mod Answer
 pub mod Search
-pub mod Examples

@@ -1,68 +1,72 @@
--- The structs that C gets back: document 01's number of an answer, and its values, zeros where it was refused.
-use mathlib.Core.List.{List}
+-- What C gives and gets back: a date in one struct, and for each answer its number and its values, as the crates below define them.
+use mathlib.Core.Bool.{cond}
+use mathlib.Core.Logic.{_⊎_}
+use mathlib.Core.Path.{_≡_}
 use lib.IntN.{ℤ, pos}
-use Rattle.refusals.specs.Number.{numberOf}
-use Rattle.angles.specs.Unit.{millionths, hundredMillionths}
-use Rattle.kepler.specs.declared.Solved.{Solved}
-use Rattle.kepler.specs.declared.Solved.the-variants.{Anomaly, Refused as NotSolved}
+use Rattle.integers.specs.Sign.{same}
+use Rattle.angles.specs.Unit.{hundredMillionths}
+use Rattle.dates.specs.declared.Date.{Date}
+use Rattle.dates.specs.declared.Date.the-variants.{Julian, Minutes}
+use Rattle.kepler.specs.declared.AnomalyAnswer.{AnomalyAnswer}
+use Rattle.kepler.specs.Equation.{Elliptic, Solves}
+use Rattle.kepler.specs.Answer.{anomalyStatus, anomalyAngle}
 use Rattle.orbits.specs.declared.Elements.{Elements}
 use Rattle.orbits.specs.declared.ElementsAnswer.{ElementsAnswer}
-use Rattle.orbits.specs.declared.ElementsAnswer.the-variants.{Found, Refused as NotFound}
-use Rattle.orbits.specs.declared.MeanAnswer.{MeanAnswer}
-use Rattle.orbits.specs.declared.MeanAnswer.the-variants.{Mean, NoMean}
-use Rattle.frames.specs.declared.Place.{Place}
+use Rattle.orbits.specs.Answer.{elementsStatus, elementsFound}
+use Rattle.frames.specs.declared.Coordinates.{Coordinates}
 use Rattle.frames.specs.declared.Turned.{Turned}
-use Rattle.frames.specs.declared.Turned.the-variants.{Vector, Refused as NotTurned}
+use Rattle.frames.specs.Answer.{turnedStatus, turnedVector}
 use Rattle.projector.specs.declared.PlaceInAu.{PlaceInAu}
-use Rattle.projector.specs.Au.{nowhere}
+use Rattle.places.specs.declared.PlaceAnswer.{PlaceAnswer}
 use Rattle.places.specs.declared.AuAnswer.{AuAnswer}
-use Rattle.places.specs.declared.AuAnswer.the-variants.{InAu, NoPlace}
+use Rattle.places.specs.Answer.{placeStatus, placeCoordinates, auStatus, auPlace}
+use Rattle.lindenbrood.specs.declared.CDate.{CDate}
 use Rattle.lindenbrood.specs.declared.CAngle.{CAngle}
 use Rattle.lindenbrood.specs.declared.CElements.{CElements}
 use Rattle.lindenbrood.specs.declared.CVector.{CVector}
 use Rattle.lindenbrood.specs.declared.CPlace.{CPlace}
 
-abbrev pub anAngle : ℤ → ℤ → CAngle
-anAngle s a = record { status = s; angle = a }
+-- form 0: the Julian date; any other form: the minutes
+abbrev pub dateOf : CDate → Date
+dateOf d = cond (same (d .form) (pos 0)) (Julian (d .julian)) (Minutes (d .minutes))
 
--- the solver's answer
-abbrev pub anomalyOf : Solved → CAngle
-anomalyOf (Anomaly E) = anAngle (pos 0) (millionths E)
-anomalyOf (NotSolved r) = anAngle (numberOf r) (pos 0)
+-- the solver's answer, and a mean anomaly
+abbrev pub cAngle : AnomalyAnswer → CAngle
+cAngle a = record { status = anomalyStatus a; angle = anomalyAngle a }
 
--- a mean anomaly
-abbrev pub meanOf : MeanAnswer → CAngle
-meanOf (Mean M) = anAngle (pos 0) (millionths M)
-meanOf (NoMean r) = anAngle (numberOf r) (pos 0)
+-- the solver's in document 01's own words: status 0 with an angle that solves, or status 7 for an e that is not 0 to 90,000,000
+abbrev pub IsSolved : ℤ → ℤ → CAngle → Type 0
+IsSolved e M r = ((r .status ≡ pos 0) × Elliptic e × Solves e M (r .angle)) ⊎ ((r .status ≡ pos 7) × (r .angle ≡ pos 0) × (Elliptic e → ⊥))
 
 -- the six elements
-abbrev pub sixElements : ℤ → ℤ → ℤ → ℤ → ℤ → ℤ → ℤ → CElements
-sixElements s a e i l p n = record { status = s; a = a; e = e; inclination = i; longitude = l; perihelion = p; node = n }
+abbrev pub sixElements : ℤ → Elements → CElements
+sixElements s x =
+    record {
+      status = s;
+      a = hundredMillionths (x .a);
+      e = hundredMillionths (x .e);
+      inclination = hundredMillionths (x .inclination);
+      longitude = hundredMillionths (x .longitude);
+      perihelion = hundredMillionths (x .perihelion);
+      node = hundredMillionths (x .node);
+    }
 
-abbrev pub foundOf : Elements → CElements
-foundOf x =
-    sixElements (pos 0) (hundredMillionths (x .a)) (hundredMillionths (x .e)) (hundredMillionths (x .inclination))
-    (hundredMillionths (x .longitude)) (hundredMillionths (x .perihelion)) (hundredMillionths (x .node))
+abbrev pub cElements : ElementsAnswer → CElements
+cElements a = sixElements (elementsStatus a) (elementsFound a)
 
-abbrev pub elementsOf : ElementsAnswer → CElements
-elementsOf (Found x) = foundOf x
-elementsOf (NotFound r) = sixElements (numberOf r) (pos 0) (pos 0) (pos 0) (pos 0) (pos 0) (pos 0)
+-- a place in counts, and a turned vector
+abbrev pub threeCounts : ℤ → Coordinates → CVector
+threeCounts s p = record { status = s; x = p .x; y = p .y; z = p .z }
 
--- a place in counts, or a turned vector
-abbrev pub threeCounts : ℤ → ℤ → ℤ → ℤ → CVector
-threeCounts s x y z = record { status = s; x = x; y = y; z = z }
+abbrev pub cCounts : PlaceAnswer → CVector
+cCounts a = threeCounts (placeStatus a) (placeCoordinates a)
 
-abbrev pub countsOf : Place → CVector
-countsOf p = threeCounts (pos 0) (p .x) (p .y) (p .z)
-
-abbrev pub vectorOf : Turned → CVector
-vectorOf (Vector p) = countsOf p
-vectorOf (NotTurned r) = threeCounts (numberOf r) (pos 0) (pos 0) (pos 0)
+abbrev pub cVector : Turned → CVector
+cVector t = threeCounts (turnedStatus t) (turnedVector t)
 
 -- a place in au
-abbrev pub inDoubles : ℤ → PlaceInAu → CPlace
-inDoubles s p = record { status = s; x = p .x; y = p .y; z = p .z }
+abbrev pub threeDoubles : ℤ → PlaceInAu → CPlace
+threeDoubles s p = record { status = s; x = p .x; y = p .y; z = p .z }
 
-abbrev pub auOf : AuAnswer → CPlace
-auOf (InAu p) = inDoubles (pos 0) p
-auOf (NoPlace r) = inDoubles (numberOf r) nowhere
+abbrev pub cPlace : AuAnswer → CPlace
+cPlace a = threeDoubles (auStatus a) (auPlace a)

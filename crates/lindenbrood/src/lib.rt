@@ -1,8 +1,8 @@
 // The C interface, a static library. Each exported function is one line over the crates below; `include/lindenbrood.h`
-// declares them for C. A date comes in by two functions, since an enum with data cannot be exported.
+// declares them for C. One struct carries a date in either form, so that no call exists twice.
 ghost use mathlib.Core.Path.{_≡_};
 ghost use mathlib.Core.List.{[], _∷_};
-ghost use Rattle.dates.specs.declared.Date.the-variants.{Julian, Minutes};
+ghost use lib.IntN.{pos};
 ghost use Rattle.angles.specs.Sine.{sineOf, cosineOf};
 ghost use Rattle.kepler.specs.Answer.{solvedOf};
 ghost use Rattle.orbits.specs.Answer.{elementsAnswer, meanAnswer};
@@ -11,22 +11,31 @@ ghost use Rattle.places.specs.Answer.{placeAnswer, turnAnswer, auAnswer};
 ghost use Rattle.rows.specs.Answer.{readOf, written, writtenStatus};
 ghost use Rattle.sheets.specs.Row.{rowWritten};
 ghost use Rattle.sheets.specs.Sheet.{sheetWritten};
-ghost use Rattle.lindenbrood.specs.Answer.{anomalyOf, meanOf, foundOf, elementsOf, countsOf, vectorOf, auOf};
-ghost use Rattle.lindenbrood.specs.Lent.{fieldsOf, readAnswer, sheetOf, rowOfFields, writtenNumber, sheetNumber};
+ghost use Rattle.lindenbrood.specs.Answer.{dateOf, cAngle, IsSolved, sixElements, cElements, threeCounts, cCounts, cVector, threeDoubles, cPlace};
+ghost use Rattle.lindenbrood.specs.Lent.{rowFields, cRow, cSheet, rowOfFields, writtenNumber, sheetNumber};
 use angles::Angle;
 use angles::Element;
 use dates::Date;
-use frames::Place;
+use frames::Coordinates;
 use frames::Turned;
-use kepler::Solved;
+use kepler::AnomalyAnswer;
 use orbits::Elements;
 use orbits::ElementsAnswer;
-use orbits::MeanAnswer;
 use places::AuAnswer;
+use places::PlaceAnswer;
+use projector::PlaceInAu;
 use rows::ReadAnswer;
 use rows::Row;
 use rows::Written;
 use sheets::SheetAnswer;
+
+// A date. Form 0 is the Julian date; any other form is the minutes, and the member that is not meant is not looked at.
+#[repr(C)]
+pub struct CDate {
+    pub form: i64,
+    pub julian: f64,
+    pub minutes: i64,
+}
 
 // A status number, and an angle in millionths of a degree, zero where the status is not.
 #[repr(C)]
@@ -85,30 +94,24 @@ pub struct CSheet {
     pub good: usize,
 }
 
-fn anomaly_of(solved: Solved) -> CAngle
-    ensures { λ r. ⌜ r ≡ anomalyOf solved ⌝ }
+fn date_of(date: CDate) -> Date
+    ensures { λ r. ⌜ r ≡ dateOf date ⌝ }
 {
-    match solved {
-        Solved::Anomaly(a) => CAngle {
-            status: 0,
-            angle: a.millionths(),
-        },
-        Solved::Refused(r) => CAngle {
-            status: refusals::number(r),
-            angle: 0,
-        },
+    if date.form == 0 {
+        return Date::Julian(date.julian);
     }
+    Date::Minutes(date.minutes)
 }
 
-fn mean_of(answer: MeanAnswer) -> CAngle
-    ensures { λ r. ⌜ r ≡ meanOf answer ⌝ }
+fn angle_of(answer: AnomalyAnswer) -> CAngle
+    ensures { λ r. ⌜ r ≡ cAngle answer ⌝ }
 {
     match answer {
-        MeanAnswer::Mean(a) => CAngle {
+        AnomalyAnswer::Anomaly(a) => CAngle {
             status: 0,
             angle: a.millionths(),
         },
-        MeanAnswer::NoMean(r) => CAngle {
+        AnomalyAnswer::Refused(r) => CAngle {
             status: refusals::number(r),
             angle: 0,
         },
@@ -116,7 +119,7 @@ fn mean_of(answer: MeanAnswer) -> CAngle
 }
 
 fn elements_of(answer: ElementsAnswer) -> CElements
-    ensures { λ r. ⌜ r ≡ elementsOf answer ⌝ }
+    ensures { λ r. ⌜ r ≡ cElements answer ⌝ }
 {
     match answer {
         ElementsAnswer::Found(x) => found_of(x),
@@ -133,7 +136,7 @@ fn elements_of(answer: ElementsAnswer) -> CElements
 }
 
 fn found_of(x: Elements) -> CElements
-    ensures { λ r. ⌜ r ≡ foundOf x ⌝ }
+    ensures { λ r. ⌜ r ≡ sixElements (pos 0) x ⌝ }
 {
     let a = x.a;
     let e = x.e;
@@ -152,52 +155,60 @@ fn found_of(x: Elements) -> CElements
     }
 }
 
-fn counts_of(p: Place) -> CVector
-    ensures { λ r. ⌜ r ≡ countsOf p ⌝ }
+fn three_counts(status: i64, p: Coordinates) -> CVector
+    ensures { λ r. ⌜ r ≡ threeCounts status p ⌝ }
 {
     CVector {
-        status: 0,
+        status,
         x: p.x,
         y: p.y,
         z: p.z,
     }
 }
 
+fn counts_of(answer: PlaceAnswer) -> CVector
+    ensures { λ r. ⌜ r ≡ cCounts answer ⌝ }
+{
+    match answer {
+        PlaceAnswer::Found(_, p) => three_counts(0, p),
+        PlaceAnswer::Refused(r) => three_counts(
+            refusals::number(r),
+            frames::as_coordinates([0, 0, 0]),
+        ),
+    }
+}
+
 fn vector_of(turned: Turned) -> CVector
-    ensures { λ r. ⌜ r ≡ vectorOf turned ⌝ }
+    ensures { λ r. ⌜ r ≡ cVector turned ⌝ }
 {
     match turned {
-        Turned::Vector(p) => counts_of(p),
-        Turned::Refused(r) => CVector {
-            status: refusals::number(r),
-            x: 0,
-            y: 0,
-            z: 0,
-        },
+        Turned::Vector(p) => three_counts(0, p),
+        Turned::Refused(r) => three_counts(refusals::number(r), frames::as_coordinates([0, 0, 0])),
+    }
+}
+
+fn three_doubles(status: i64, p: PlaceInAu) -> CPlace
+    ensures { λ r. ⌜ r ≡ threeDoubles status p ⌝ }
+{
+    CPlace {
+        status,
+        x: p.x,
+        y: p.y,
+        z: p.z,
     }
 }
 
 fn au_of(answer: AuAnswer) -> CPlace
-    ensures { λ r. ⌜ r ≡ auOf answer ⌝ }
+    ensures { λ r. ⌜ r ≡ cPlace answer ⌝ }
 {
     match answer {
-        AuAnswer::InAu(p) => CPlace {
-            status: 0,
-            x: p.x,
-            y: p.y,
-            z: p.z,
-        },
-        AuAnswer::NoPlace(r) => CPlace {
-            status: refusals::number(r),
-            x: 0.0,
-            y: 0.0,
-            z: 0.0,
-        },
+        AuAnswer::InAu(p) => three_doubles(0, p),
+        AuAnswer::Refused(r) => three_doubles(refusals::number(r), projector::nowhere()),
     }
 }
 
 fn fields_of(row: Row) -> CRow
-    ensures { λ r. ⌜ r ≡ fieldsOf row ⌝ }
+    ensures { λ r. ⌜ r ≡ rowFields (pos 0) row ⌝ }
 {
     CRow {
         status: 0,
@@ -212,7 +223,7 @@ fn fields_of(row: Row) -> CRow
 }
 
 fn read_of(answer: ReadAnswer) -> CRow
-    ensures { λ r. ⌜ r ≡ readAnswer answer ⌝ }
+    ensures { λ r. ⌜ r ≡ cRow answer ⌝ }
 {
     match answer {
         ReadAnswer::Found(row) => fields_of(row),
@@ -239,7 +250,7 @@ fn written_of(answer: Written) -> i64
 }
 
 fn sheet_of(answer: SheetAnswer) -> CSheet
-    ensures { λ r. ⌜ r ≡ sheetOf answer ⌝ }
+    ensures { λ r. ⌜ r ≡ cSheet answer ⌝ }
 {
     CSheet {
         status: answer.status,
@@ -252,7 +263,8 @@ fn sheet_of(answer: SheetAnswer) -> CSheet
 pub extern "C" fn lindenbrood_sine(angle: i64) -> i64
     ensures { λ r. ⌜ r ≡ sineOf angle ⌝ }
 {
-    angles::sine(Angle::of_millionths(angle))
+    let sines = angles::sines();
+    angles::sine(&sines, Angle::of_millionths(angle))
 }
 
 // The cosine of any angle.
@@ -260,118 +272,78 @@ pub extern "C" fn lindenbrood_sine(angle: i64) -> i64
 pub extern "C" fn lindenbrood_cosine(angle: i64) -> i64
     ensures { λ r. ⌜ r ≡ cosineOf angle ⌝ }
 {
-    angles::cosine(Angle::of_millionths(angle))
+    let sines = angles::sines();
+    angles::cosine(&sines, Angle::of_millionths(angle))
 }
 
 // The eccentric anomaly of any mean anomaly at any eccentricity, or refusal 7.
 #[no_mangle]
 pub extern "C" fn lindenbrood_eccentric_anomaly(e: i64, mean: i64) -> CAngle
-    ensures { λ r. ⌜ r ≡ anomalyOf (solvedOf e mean) ⌝ }
+    ensures { λ r. ⌜ r ≡ cAngle (solvedOf e mean) ⌝ }
+    ensures { λ r. ⌜ IsSolved e mean r ⌝ }
 {
-    anomaly_of(kepler::solve(
+    let sines = angles::sines();
+    angle_of(kepler::solve(
+        &sines,
         Element::of_hundred_millionths(e),
         Angle::of_millionths(mean),
     ))
 }
 
-// The six elements of a body, on a Julian date.
+// The six elements of a body on a date.
 #[no_mangle]
-pub extern "C" fn lindenbrood_elements_julian(date: f64, body: i64) -> CElements
-    ensures { λ r. ⌜ r ≡ elementsOf (elementsAnswer (Julian date) body) ⌝ }
+pub extern "C" fn lindenbrood_elements(date: CDate, body: i64) -> CElements
+    ensures { λ r. ⌜ r ≡ cElements (elementsAnswer (dateOf date) body) ⌝ }
 {
-    elements_of(orbits::elements_on_date(Date::Julian(date), body))
+    elements_of(orbits::elements_on_date(date_of(date), body))
 }
 
-// The six elements of a body, on a date in minutes.
+// The mean anomaly of a body on a date.
 #[no_mangle]
-pub extern "C" fn lindenbrood_elements_minutes(date: i64, body: i64) -> CElements
-    ensures { λ r. ⌜ r ≡ elementsOf (elementsAnswer (Minutes date) body) ⌝ }
+pub extern "C" fn lindenbrood_mean_anomaly(date: CDate, body: i64) -> CAngle
+    ensures { λ r. ⌜ r ≡ cAngle (meanAnswer (dateOf date) body) ⌝ }
 {
-    elements_of(orbits::elements_on_date(Date::Minutes(date), body))
+    angle_of(orbits::mean_anomaly(date_of(date), body))
 }
 
-// The mean anomaly of a body, on a Julian date.
+// The place of a body in a frame on a date, in counts of 10^-7 au.
 #[no_mangle]
-pub extern "C" fn lindenbrood_mean_anomaly_julian(date: f64, body: i64) -> CAngle
-    ensures { λ r. ⌜ r ≡ meanOf (meanAnswer (Julian date) body) ⌝ }
+pub extern "C" fn lindenbrood_counts(date: CDate, body: i64, frame: i64) -> CVector
+    ensures { λ r. ⌜ r ≡ cCounts (placeAnswer (dateOf date) body frame) ⌝ }
 {
-    mean_of(orbits::mean_anomaly(Date::Julian(date), body))
+    let sines = angles::sines();
+    counts_of(places::place_after(&sines, date_of(date), 0, body, frame))
 }
 
-// The mean anomaly of a body, on a date in minutes.
+// The place of a body in a frame on a date, in au.
 #[no_mangle]
-pub extern "C" fn lindenbrood_mean_anomaly_minutes(date: i64, body: i64) -> CAngle
-    ensures { λ r. ⌜ r ≡ meanOf (meanAnswer (Minutes date) body) ⌝ }
+pub extern "C" fn lindenbrood_place(date: CDate, body: i64, frame: i64) -> CPlace
+    ensures { λ r. ⌜ r ≡ cPlace (auAnswer (dateOf date) body frame) ⌝ }
 {
-    mean_of(orbits::mean_anomaly(Date::Minutes(date), body))
+    let sines = angles::sines();
+    au_of(places::place_in_au(&sines, date_of(date), body, frame))
 }
 
-// The place of a body in a frame, in counts of 10^-7 au, on a Julian date.
+// A vector of one frame in another on a date.
 #[no_mangle]
-pub extern "C" fn lindenbrood_counts_julian(date: f64, body: i64, frame: i64) -> CVector
-    ensures { λ r. ⌜ r ≡ vectorOf (placeAnswer (Julian date) body frame) ⌝ }
-{
-    vector_of(places::place_on_date(Date::Julian(date), body, frame))
-}
-
-// The place of a body in a frame, in counts of 10^-7 au, on a date in minutes.
-#[no_mangle]
-pub extern "C" fn lindenbrood_counts_minutes(date: i64, body: i64, frame: i64) -> CVector
-    ensures { λ r. ⌜ r ≡ vectorOf (placeAnswer (Minutes date) body frame) ⌝ }
-{
-    vector_of(places::place_on_date(Date::Minutes(date), body, frame))
-}
-
-// The place of a body in a frame, in au, on a Julian date.
-#[no_mangle]
-pub extern "C" fn lindenbrood_place_julian(date: f64, body: i64, frame: i64) -> CPlace
-    ensures { λ r. ⌜ r ≡ auOf (auAnswer (Julian date) body frame) ⌝ }
-{
-    au_of(places::place_in_au(Date::Julian(date), body, frame))
-}
-
-// The place of a body in a frame, in au, on a date in minutes.
-#[no_mangle]
-pub extern "C" fn lindenbrood_place_minutes(date: i64, body: i64, frame: i64) -> CPlace
-    ensures { λ r. ⌜ r ≡ auOf (auAnswer (Minutes date) body frame) ⌝ }
-{
-    au_of(places::place_in_au(Date::Minutes(date), body, frame))
-}
-
-// A vector of one frame in another, on a Julian date.
-#[no_mangle]
-pub extern "C" fn lindenbrood_turn_julian(
-    date: f64,
+pub extern "C" fn lindenbrood_turn(
+    date: CDate,
     from: i64,
     to: i64,
     x: i64,
     y: i64,
     z: i64,
 ) -> CVector
-    ensures { λ r. ⌜ r ≡ vectorOf (turnAnswer (Julian date) from to (x ∷ y ∷ z ∷ [])) ⌝ }
+    ensures { λ r. ⌜ r ≡ cVector (turnAnswer (dateOf date) from to (x ∷ y ∷ z ∷ [])) ⌝ }
 {
-    vector_of(places::turn_on_date(Date::Julian(date), from, to, [x, y, z]))
-}
-
-// A vector of one frame in another, on a date in minutes.
-#[no_mangle]
-pub extern "C" fn lindenbrood_turn_minutes(
-    date: i64,
-    from: i64,
-    to: i64,
-    x: i64,
-    y: i64,
-    z: i64,
-) -> CVector
-    ensures { λ r. ⌜ r ≡ vectorOf (turnAnswer (Minutes date) from to (x ∷ y ∷ z ∷ [])) ⌝ }
-{
-    vector_of(places::turn_on_date(Date::Minutes(date), from, to, [x, y, z]))
+    let sines = angles::sines();
+    vector_of(places::turn_on_date(&sines, date_of(date), from, to, [x, y, z]))
 }
 
 // A vector of HAE in RTN at the place r of a spacecraft.
 #[no_mangle]
 pub extern "C" fn lindenbrood_to_rtn(rx: i64, ry: i64, rz: i64, x: i64, y: i64, z: i64) -> CVector
-    ensures { λ r. ⌜ r ≡ vectorOf (toRtn (rx ∷ ry ∷ rz ∷ []) (x ∷ y ∷ z ∷ [])) ⌝ }
+    ensures { λ r. ⌜ r ≡ cVector (toRtn (rx ∷ ry ∷ rz ∷ []) (x ∷ y ∷ z ∷ [])) ⌝ }
 {
     vector_of(frames::to_rtn([rx, ry, rz], [x, y, z]))
 }
@@ -379,25 +351,17 @@ pub extern "C" fn lindenbrood_to_rtn(rx: i64, ry: i64, rz: i64, x: i64, y: i64, 
 // A vector of RTN at the place r of a spacecraft in HAE.
 #[no_mangle]
 pub extern "C" fn lindenbrood_from_rtn(rx: i64, ry: i64, rz: i64, x: i64, y: i64, z: i64) -> CVector
-    ensures { λ r. ⌜ r ≡ vectorOf (fromRtn (rx ∷ ry ∷ rz ∷ []) (x ∷ y ∷ z ∷ [])) ⌝ }
+    ensures { λ r. ⌜ r ≡ cVector (fromRtn (rx ∷ ry ∷ rz ∷ []) (x ∷ y ∷ z ∷ [])) ⌝ }
 {
     vector_of(frames::from_rtn([rx, ry, rz], [x, y, z]))
 }
 
-// The row of a body in a frame on a Julian date, into bytes that are lent.
+// The row of a body in a frame on a date, into bytes that are lent.
 #[no_mangle]
-pub extern "C" fn lindenbrood_row_julian(date: f64, body: i64, frame: i64, bytes: &mut [u8]) -> i64
-    ensures { λ r. ⌜ (r, now (bytes .exit)) ≡ rowWritten (Julian date) body frame (now (bytes .entry)) ⌝ }
+pub extern "C" fn lindenbrood_row(date: CDate, body: i64, frame: i64, bytes: &mut [u8]) -> i64
+    ensures { λ r. ⌜ (r, now (bytes .exit)) ≡ rowWritten (dateOf date) body frame (now (bytes .entry)) ⌝ }
 {
-    sheets::row(Date::Julian(date), body, frame, bytes)
-}
-
-// The row of a body in a frame on a date in minutes, into bytes that are lent.
-#[no_mangle]
-pub extern "C" fn lindenbrood_row_minutes(date: i64, body: i64, frame: i64, bytes: &mut [u8]) -> i64
-    ensures { λ r. ⌜ (r, now (bytes .exit)) ≡ rowWritten (Minutes date) body frame (now (bytes .entry)) ⌝ }
-{
-    sheets::row(Date::Minutes(date), body, frame, bytes)
+    sheets::row(date_of(date), body, frame, bytes)
 }
 
 // A row of these fields, into bytes that are lent.
@@ -429,37 +393,22 @@ pub extern "C" fn lindenbrood_write_row(
 // The row in bytes that are lent to be read.
 #[no_mangle]
 pub extern "C" fn lindenbrood_read_row(bytes: &[u8]) -> CRow
-    ensures { λ r. ⌜ r ≡ readAnswer (readOf (now (bytes .entry))) ⌝ }
+    ensures { λ r. ⌜ r ≡ cRow (readOf (now (bytes .entry))) ⌝ }
 {
     read_of(rows::read_row(bytes))
 }
 
-// The rows for a Julian date, that date and the step, and so on, into bytes that are lent.
+// The rows for a date, that date and the step, and so on, into bytes that are lent.
 #[no_mangle]
-pub extern "C" fn lindenbrood_sheet_julian(
-    start: f64,
+pub extern "C" fn lindenbrood_sheet(
+    start: CDate,
     step: i64,
     count: i64,
     body: i64,
     frame: i64,
     bytes: &mut [u8],
 ) -> CSheet
-    ensures { λ r. ⌜ (r, now (bytes .exit)) ≡ sheetNumber (sheetWritten (Julian start) step count body frame (now (bytes .entry))) ⌝ }
+    ensures { λ r. ⌜ (r, now (bytes .exit)) ≡ sheetNumber (sheetWritten (dateOf start) step count body frame (now (bytes .entry))) ⌝ }
 {
-    sheet_of(sheets::sheet(Date::Julian(start), step, count, body, frame, bytes))
-}
-
-// The rows for a date in minutes, that date and the step, and so on, into bytes that are lent.
-#[no_mangle]
-pub extern "C" fn lindenbrood_sheet_minutes(
-    start: i64,
-    step: i64,
-    count: i64,
-    body: i64,
-    frame: i64,
-    bytes: &mut [u8],
-) -> CSheet
-    ensures { λ r. ⌜ (r, now (bytes .exit)) ≡ sheetNumber (sheetWritten (Minutes start) step count body frame (now (bytes .entry))) ⌝ }
-{
-    sheet_of(sheets::sheet(Date::Minutes(start), step, count, body, frame, bytes))
+    sheet_of(sheets::sheet(date_of(start), step, count, body, frame, bytes))
 }

@@ -3,7 +3,7 @@
 ghost use mathlib.Core.Path.{_≡_};
 ghost use Prim.Native.Nat.{_≤_, _<_};
 ghost use lib.ListN.{length};
-ghost use Rattle.angles.specs.Sines.{sines};
+ghost use Rattle.angles.specs.Sines.{sineEntries};
 ghost use Rattle.listing.specs.Parts.{PartEnd};
 use libc::STDIN_FILENO;
 use libc::STDOUT_FILENO;
@@ -29,26 +29,27 @@ fn flushed(out: &[u8], at: usize) -> usize
     0
 }
 
-fn part_end(from: usize, length: usize) -> usize
-    requires { ⌜ from ≤ length ⌝ }
-    ensures { λ r. ⌜ PartEnd from length r ⌝ }
+// Where the part of a block of `count` bytes that begins at byte `from` ends.
+fn part_end(from: usize, count: usize) -> usize
+    requires { ⌜ from ≤ count ⌝ }
+    ensures { λ r. ⌜ PartEnd from count r ⌝ }
 {
-    if 256 < length - from {
+    if 256 < count - from {
         return from + 256;
     }
-    length
+    count
 }
 
 // A block of the input, part by part.
 fn take_block(
-    table: &[u32; 901],
+    sines: &[u32; 901],
     block: &[u8],
     text: &mut [u8],
     held: usize,
     out: &mut [u8],
     at: usize,
 ) -> Fed
-    requires { ⌜ now table ≡ sines ⌝ }
+    requires { ⌜ now sines ≡ sineEntries ⌝ }
     requires { ⌜ (held ≤ 36) × (length (now text) ≡ 36) ⌝ }
     requires { ⌜ (at ≤ 65536) × (length (now out) ≡ 65536) ⌝ }
     ensures { λ r. ⌜ (r .held ≤ 36) × (r .at ≤ 65536) ⌝ }
@@ -59,7 +60,7 @@ fn take_block(
     while from < block.len() {
         let to = part_end(from, block.len());
         let free = flushed(&*out, ready);
-        let fed = listing_lines::feed(table, &block[from..to], &mut *text, n, &mut *out, free);
+        let fed = listing_lines::feed(sines, &block[from..to], &mut *text, n, &mut *out, free);
         n = fed.held;
         ready = fed.at;
         from = to;
@@ -68,8 +69,8 @@ fn take_block(
 }
 
 // One read, and what came of it.
-fn read_some(table: &[u32; 901], text: &mut [u8], held: usize, out: &mut [u8], at: usize) -> Turn
-    requires { ⌜ now table ≡ sines ⌝ }
+fn read_some(sines: &[u32; 901], text: &mut [u8], held: usize, out: &mut [u8], at: usize) -> Turn
+    requires { ⌜ now sines ≡ sineEntries ⌝ }
     requires { ⌜ (held ≤ 36) × (length (now text) ≡ 36) ⌝ }
     requires { ⌜ (at ≤ 65536) × (length (now out) ≡ 65536) ⌝ }
     ensures { λ r. ⌜ (r .held ≤ 36) × (r .at ≤ 65536) ⌝ }
@@ -84,7 +85,7 @@ fn read_some(table: &[u32; 901], text: &mut [u8], held: usize, out: &mut [u8], a
         };
     }
     let n = io::count(got, &block);
-    let fed = take_block(table, &block[..n], text, held, out, at);
+    let fed = take_block(sines, &block[..n], text, held, out, at);
     Turn {
         held: fed.held,
         at: fed.at,
@@ -93,13 +94,13 @@ fn read_some(table: &[u32; 901], text: &mut [u8], held: usize, out: &mut [u8], a
 }
 
 // The last line, where no line end follows it, and all that is still to go out.
-fn finish(table: &[u32; 901], text: &[u8], held: usize, out: &mut [u8], at: usize)
-    requires { ⌜ now table ≡ sines ⌝ }
+fn finish(sines: &[u32; 901], text: &[u8], held: usize, out: &mut [u8], at: usize)
+    requires { ⌜ now sines ≡ sineEntries ⌝ }
     requires { ⌜ (held ≤ 36) × (length (now text) ≡ 36) ⌝ }
     requires { ⌜ (at ≤ 65536) × (length (now out) ≡ 65536) ⌝ }
 {
     let free = flushed(&*out, at);
-    let end = listing_lines::put_last(table, text, held, &mut *out, free);
+    let end = listing_lines::put_last(sines, text, held, &mut *out, free);
     io::write_all(STDOUT_FILENO, &out[..end]);
 }
 
@@ -114,26 +115,26 @@ fn left(turns: u64, more: bool) -> u64
     0
 }
 
-fn run(table: &[u32; 901], text: &mut [u8], out: &mut [u8])
-    requires { ⌜ now table ≡ sines ⌝ }
+fn run(sines: &[u32; 901], text: &mut [u8], out: &mut [u8])
+    requires { ⌜ now sines ≡ sineEntries ⌝ }
     requires { ⌜ (length (now text) ≡ 36) × (length (now out) ≡ 65536) ⌝ }
 {
     let mut held = 0;
     let mut at = 0;
     let mut turns = u64::MAX;
     while 0 < turns {
-        let turn = read_some(table, &mut *text, held, &mut *out, at);
+        let turn = read_some(sines, &mut *text, held, &mut *out, at);
         held = turn.held;
         at = turn.at;
         turns = left(turns, turn.more);
     }
-    finish(table, &*text, held, &mut *out, at);
+    finish(sines, &*text, held, &mut *out, at);
 }
 
 fn main() {
     io::write_all(STDOUT_FILENO, b"minute body frame status x y z\n");
-    let table = angles::table::SINES;
+    let sines = angles::sines();
     let mut text = [0u8; 36];
     let mut out = io::large_buffer();
-    run(&table, &mut text, &mut out);
+    run(&sines, &mut text, &mut out);
 }

@@ -1,5 +1,5 @@
 -- The search for the first space, one byte at a time, and the first byte of a number.
--- What is left from place i on has its first space i bytes sooner.
+-- What is left from byte i on has its first space i bytes sooner.
 use mathlib.Core.Bool.{Bool, true, false}
 use mathlib.Core.List.{List, [], _∷_}
 use mathlib.Core.Path.{_≡_, refl, sym, ap, _∙_}
@@ -29,7 +29,7 @@ module _ (l : List ℕ) (i : ℕ) where
     pub at-none : (getD l i 0 ≡ 32 → ⊥) → spaceAt (drop i l) ≡ spaceAt (drop (i + 1) l) + 1
     at-none e = step ∙ ap (λ (t : Bool). beforeIf t (spaceAt (drop (i + 1) l))) (ne-eqb (getD l i 0) 32 e)
 
--- ---- all that is left from place a on
+-- ---- all that is left from byte a on
 pub to-the-end : (l : List ℕ) (a : ℕ) → take (length l - a) (drop a l) ≡ drop a l
 to-the-end l a = take-all (length l - a) (drop a l) (rw length-drop (omega arith))
 

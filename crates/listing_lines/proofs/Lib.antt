@@ -4,7 +4,7 @@
 --     Long       no request has more than 35 bytes
 --     Decimals   a number's digits: those of its tenth, then its last; how many there are
 --     Sizes      the size of a signed number, and its sign
---     Places     bytes put at a place, one lot behind another
+--     Puts       bytes put into others, one lot behind another
 --     Texts      numbers put one behind another make a line
 --     Stream     the listing in parts is the listing
 --     Back       a number that was printed reads back as itself
@@ -13,7 +13,7 @@ pub mod Fields
 pub mod Long
 pub mod Decimals
 pub mod Sizes
-pub mod Places
+pub mod Puts
 pub mod Texts
 pub mod Stream
 pub mod Back

@@ -1,4 +1,4 @@
--- A scan of digits, one byte at a time: what is left to read from place i on is what the whole text is, and the number stays small.
+-- A scan of digits, one byte at a time: what is left to read from byte i on is what the whole text is, and the number stays small.
 -- Each step takes one byte off what is left; ten digits stand for less than 10^10.
 use mathlib.Core.Bool.{Bool, true, false, _&&_}
 use mathlib.Core.List.{List, [], _∷_}

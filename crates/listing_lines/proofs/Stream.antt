@@ -1,17 +1,17 @@
 -- The listing in parts: a part behind another, one byte more of a part, and that all parts together print the listing.
 -- By recursion on the bytes; what is held is the line so far, cut to 36 bytes, which asks for the same (Long).
-use mathlib.Core.Bool.{Bool, true, false}
+use mathlib.Core.Bool.{Bool, true, false, cond}
 use mathlib.Core.List.{List, [], _∷_, _++_, append-assoc, append-nil}
 use mathlib.Core.Path.{_≡_, refl, sym, ap, _∙_}
 use Prim.Native.Nat.{ℕ, _+_, _≤_, _<_}
 use native.Mathlib.Numerals.{add-one}
 use native.Mathlib.Omega.{arith}
-use lib.Dec.{leb}
+use lib.Dec.{leb, ltb}
 use lib.ListN.{length, take, getD, set, length-append}
-use lib.Seq.{take-suc, take-all, take-at, take-append-le, take-suc-set, length-take-le}
-use borrow.Author.Tests.{eq-eqb, ne-eqb, leb-true, leb-false}
+use lib.Seq.{take-suc, take-all, take-at, take-append-le, take-suc-set, length-take-le, set-out}
+use borrow.Author.Tests.{eq-eqb, ne-eqb, leb-true, leb-false, ltb-true, ltb-false}
 use Rattle.listing_lines.specs.Line.{lineOf, printedOf}
-use Rattle.listing_lines.specs.Stream.{isEnd, lastOf, printedIf, lineIf, linesFrom, header, listingOf, heldIf, heldAfter, printedAfter}
+use Rattle.listing_lines.specs.Stream.{isEnd, lastOf, printedIf, lineIf, linesFrom, header, listingOf, heldIf, heldAfter, printedAfter, oneMore, countIf, textIf, countAfter, textAfter}
 use Rattle.listing_lines.proofs.Long.{cut}
 
 -- ---- a part behind another
@@ -26,6 +26,16 @@ printed-append line [] ys = refl
 printed-append line (b ∷ xs) ys =
     let next = heldIf (isEnd b) line b in
     ap (λ (l : List ℕ). printedIf (isEnd b) line ++ l) (printed-append next xs ys) ∙ sym (append-assoc (printedIf (isEnd b) line) (printedAfter next xs) (printedAfter (heldAfter next xs) ys))
+
+count-append : (n : ℕ) (xs ys : List ℕ) → countAfter n (xs ++ ys) ≡ countAfter (countAfter n xs) ys
+unfolding countAfter
+count-append n [] ys = refl
+count-append n (b ∷ xs) ys = count-append (countIf (isEnd b) n) xs ys
+
+text-append : (n : ℕ) (text xs ys : List ℕ) → textAfter n text (xs ++ ys) ≡ textAfter (countAfter n xs) (textAfter n text xs) ys
+unfolding countAfter textAfter
+text-append n text [] ys = refl
+text-append n text (b ∷ xs) ys = text-append (countIf (isEnd b) n) (textIf (isEnd b) n text b) xs ys
 
 -- ---- one byte more
 module _ (line l : List ℕ) (i : ℕ) (h : i < length l) where
@@ -45,10 +55,25 @@ module _ (line l : List ℕ) (i : ℕ) (h : i < length l) where
       ap (printedAfter line) one-more ∙ printed-append line (take i l) (getD l i 0 ∷ [])
       ∙ ap (λ (t : List ℕ). printedAfter line (take i l) ++ t) (append-nil (printedIf (isEnd (getD l i 0)) so-far))
 
+  -- the bytes in which it is held, and how many they are
+  pub count-one : (n : ℕ) → countAfter n (take (i + 1) l) ≡ countIf (isEnd (getD l i 0)) (countAfter n (take i l))
+  unfolding countAfter
+  count-one n = ap (countAfter n) one-more ∙ count-append n (take i l) (getD l i 0 ∷ [])
+
+  pub text-one : (n : ℕ) (text : List ℕ) → textAfter n text (take (i + 1) l) ≡ textIf (isEnd (getD l i 0)) (countAfter n (take i l)) (textAfter n text (take i l)) (getD l i 0)
+  unfolding textAfter
+  text-one n text = ap (textAfter n text) one-more ∙ text-append n text (take i l) (getD l i 0 ∷ [])
+
   -- a line end: what is held is printed, and nothing is held
   module _ (e : getD l i 0 ≡ 10) where
     pub held-end : heldAfter line (take (i + 1) l) ≡ []
     held-end = held-one ∙ ap (λ (t : Bool). heldIf t so-far (getD l i 0)) (eq-eqb (getD l i 0) 10 e)
+
+    pub count-end : (n : ℕ) → countAfter n (take (i + 1) l) ≡ 0
+    count-end n = count-one n ∙ ap (λ (t : Bool). countIf t (countAfter n (take i l))) (eq-eqb (getD l i 0) 10 e)
+
+    pub text-end : (n : ℕ) (text : List ℕ) → textAfter n text (take (i + 1) l) ≡ textAfter n text (take i l)
+    text-end n text = text-one n text ∙ ap (λ (t : Bool). textIf t (countAfter n (take i l)) (textAfter n text (take i l)) (getD l i 0)) (eq-eqb (getD l i 0) 10 e)
 
     pub printed-end : printedAfter line (take (i + 1) l) ≡ printedAfter line (take i l) ++ printedOf so-far
     printed-end = printed-one ∙ ap (λ (t : Bool). printedAfter line (take i l) ++ printedIf t so-far) (eq-eqb (getD l i 0) 10 e)
@@ -58,18 +83,36 @@ module _ (line l : List ℕ) (i : ℕ) (h : i < length l) where
     pub held-other : heldAfter line (take (i + 1) l) ≡ take 36 (so-far ++ (getD l i 0 ∷ []))
     held-other = held-one ∙ ap (λ (t : Bool). heldIf t so-far (getD l i 0)) (ne-eqb (getD l i 0) 10 e)
 
+    pub count-other : (n : ℕ) → countAfter n (take (i + 1) l) ≡ oneMore (countAfter n (take i l))
+    count-other n = count-one n ∙ ap (λ (t : Bool). countIf t (countAfter n (take i l))) (ne-eqb (getD l i 0) 10 e)
+
+    pub text-other : (n : ℕ) (text : List ℕ) → textAfter n text (take (i + 1) l) ≡ set (textAfter n text (take i l)) (countAfter n (take i l)) (getD l i 0)
+    text-other n text = text-one n text ∙ ap (λ (t : Bool). textIf t (countAfter n (take i l)) (textAfter n text (take i l)) (getD l i 0)) (ne-eqb (getD l i 0) 10 e)
+
     pub printed-other : printedAfter line (take (i + 1) l) ≡ printedAfter line (take i l)
     printed-other =
         printed-one ∙ ap (λ (t : Bool). printedAfter line (take i l) ++ printedIf t so-far) (ne-eqb (getD l i 0) 10 e) ∙ append-nil (printedAfter line (take i l))
 
--- ---- a byte in the place where it is held
-pub kept-in : (text : List ℕ) (n b : ℕ) → length text ≡ 36 → n < 36 → take (n + 1) (set text n b) ≡ take 36 (take n text ++ (b ∷ []))
-kept-in text n b h l =
-    ap (λ (k : ℕ). take k (set text n b)) (add-one n) ∙ take-suc-set text n b (omega arith)
-    ∙ sym (take-all 36 (take n text ++ (b ∷ [])) (omega (arith, length-append (take n text) (b ∷ []), length-take-le n text (omega arith))))
+-- ---- a byte stored behind those that are held, of which there are 36 at most
+module _ (text : List ℕ) (n b : ℕ) (h : length text ≡ 36) (few : n ≤ 36) where
+  pub kept : take (oneMore n) (set text n b) ≡ take 36 (take n text ++ (b ∷ []))
+  kept = go (ltb n 36) (ltb-true n 36) (ltb-false n 36)
+    where
+      go : (t : Bool) → (t ≡ true → n < 36) → (t ≡ false → 36 ≤ n) → take (cond t (n + 1) n) (set text n b) ≡ take 36 (take n text ++ (b ∷ []))
+      go true f g =
+          let l = f refl in
+          ap (λ (k : ℕ). take k (set text n b)) (add-one n) ∙ take-suc-set text n b (omega arith)
+          ∙ sym (take-all 36 (take n text ++ (b ∷ [])) (omega (arith, length-append (take n text) (b ∷ []), length-take-le n text (omega arith))))
+      go false f g =
+          let l = g refl in
+          ap (take n) (set-out text n b (omega arith)) ∙ sym (take-at (take n text) (b ∷ []) 36 (length-take-le n text (omega arith) ∙ omega arith))
 
-pub kept-out : (text : List ℕ) (n b : ℕ) → length text ≡ 36 → n ≤ 36 → 36 ≤ n → take n text ≡ take 36 (take n text ++ (b ∷ []))
-kept-out text n b h l g = sym (take-at (take n text) (b ∷ []) 36 (length-take-le n text (omega arith) ∙ omega arith))
+  pub more-few : oneMore n ≤ 36
+  more-few = go (ltb n 36) (ltb-true n 36)
+    where
+      go : (t : Bool) → (t ≡ true → n < 36) → cond t (n + 1) n ≤ 36
+      go true f = let l = f refl in omega arith
+      go false f = few
 
 -- ---- a last line that is not empty
 pub last-is : (l : List ℕ) → 0 < length l → lastOf l ≡ printedOf l

@@ -1,4 +1,4 @@
--- What the contracts of `listing_lines` cite: a line's request, a number's decimal digits, the printed line, bytes put at a place, and the listing.
+-- What the contracts of `listing_lines` cite: a line's request, a number's decimal digits, the printed line, bytes put into others, and the listing.
 pub mod Request
 pub mod Decimal
 pub mod Line

@@ -6,9 +6,8 @@ use Rattle.refusals.specs.declared.Refusal.{Refusal}
 use Rattle.refusals.specs.declared.Refusal.the-variants.{NoRow}
 use Rattle.refusals.specs.Number.{numberOf}
 use Rattle.dates.specs.declared.Date.the-variants.{Minutes}
-use Rattle.frames.specs.declared.Place.{Place}
-use Rattle.frames.specs.declared.Turned.{Turned}
-use Rattle.frames.specs.declared.Turned.the-variants.{Vector, Refused}
+use Rattle.places.specs.declared.PlaceAnswer.{PlaceAnswer}
+use Rattle.places.specs.declared.PlaceAnswer.the-variants.{Found, Refused}
 use Rattle.places.specs.Answer.{placeAnswer}
 use Rattle.listing_lines.specs.declared.Request.{Request}
 use Rattle.listing_lines.specs.declared.Request.the-variants.{Asked, NoRequest}
@@ -21,20 +20,17 @@ textOf [] = []
 textOf (z ∷ []) = signedOf z ++ (10 ∷ [])
 textOf (z ∷ y ∷ l) = signedOf z ++ (32 ∷ textOf (y ∷ l))
 
--- "minute body frame status x y z"
-abbrev pub placeNumbers : ℤ → ℤ → ℤ → Place → List ℤ
-placeNumbers minute body frame p = minute ∷ body ∷ frame ∷ pos 0 ∷ p .x ∷ p .y ∷ p .z ∷ []
-
+-- "minute body frame status x y z", of an answer
 abbrev pub refusedNumbers : Refusal → List ℤ
 refusedNumbers r = pos 0 ∷ pos 0 ∷ pos 0 ∷ numberOf r ∷ pos 0 ∷ pos 0 ∷ pos 0 ∷ []
 
-abbrev pub numbersOf : ℤ → ℤ → ℤ → Turned → List ℤ
-numbersOf minute body frame (Vector p) = placeNumbers minute body frame p
-numbersOf minute body frame (Refused r) = refusedNumbers r
+abbrev pub numbersOf : ℤ → ℤ → PlaceAnswer → List ℤ
+numbersOf body frame (Found minute p) = minute ∷ body ∷ frame ∷ pos 0 ∷ p .x ∷ p .y ∷ p .z ∷ []
+numbersOf body frame (Refused r) = refusedNumbers r
 
 -- the answer to a request, as it is printed: the place on that minute, or refusal 9 where the line is none
 abbrev pub answerOf : Request → List ℤ
-answerOf (Asked minute body frame) = numbersOf minute body frame (placeAnswer (Minutes minute) body frame)
+answerOf (Asked minute body frame) = numbersOf body frame (placeAnswer (Minutes minute) body frame)
 answerOf NoRequest = refusedNumbers NoRow
 
 -- the printed line, with its line end, of a request, and of a line of input

@@ -1,11 +1,11 @@
 -- Document 01, the listing program: all that it prints for its input, "the last line needs no line end". And the same where the
 -- input comes in parts: what is held of the line that has not ended, and what is printed meanwhile.
-use mathlib.Core.Bool.{Bool, true, false}
+use mathlib.Core.Bool.{Bool, true, false, cond}
 use mathlib.Core.List.{List, [], _∷_, _++_}
 use mathlib.Core.Path.{_≡_}
 use Prim.Native.Nat.{ℕ, _+_, _*_, _≤_}
-use lib.Dec.{eqb}
-use lib.ListN.{length, take}
+use lib.Dec.{eqb, ltb}
+use lib.ListN.{length, take, set}
 use Rattle.listing_lines.specs.declared.Fed.{Fed}
 use Rattle.listing_lines.specs.Line.{printedOf}
 use Rattle.listing_lines.specs.Put.{Put}
@@ -19,11 +19,11 @@ abbrev pub lastOf : List ℕ → List ℕ
 lastOf [] = []
 lastOf (b ∷ l) = printedOf (b ∷ l)
 
-abbrev pub printedIf : Bool → List ℕ → List ℕ
+abbrev pub printedIf : (isEnd : Bool) → List ℕ → List ℕ
 printedIf true line = printedOf line
 printedIf false line = []
 
-abbrev pub lineIf : Bool → List ℕ → ℕ → List ℕ
+abbrev pub lineIf : (isEnd : Bool) → List ℕ → ℕ → List ℕ
 lineIf true line b = []
 lineIf false line b = line ++ (b ∷ [])
 
@@ -43,7 +43,7 @@ unfoldable pub listingOf : List ℕ → List ℕ
 listingOf input = header ++ linesFrom [] input
 
 -- ---- in parts. No request has more than 35 bytes, so of a line the first 36 are held: cut so, a longer one is no request either
-abbrev pub heldIf : Bool → List ℕ → ℕ → List ℕ
+abbrev pub heldIf : (isEnd : Bool) → List ℕ → ℕ → List ℕ
 heldIf true line b = []
 heldIf false line b = take 36 (line ++ (b ∷ []))
 
@@ -55,10 +55,36 @@ unfoldable pub printedAfter : List ℕ → List ℕ → List ℕ
 printedAfter line [] = []
 printedAfter line (b ∷ l) = printedIf (isEnd b) line ++ printedAfter (heldIf (isEnd b) line b) l
 
--- a part was fed behind a line: its bytes are held at the start of `text`, and the lines that ended are put at `at` into `before`, which is
--- now `after`, in at most 147 bytes for a byte of the part
-pub record IsFed (line part : List ℕ) (at : ℕ) (text before after : List ℕ) (fed : Fed) : Type 0 where
-  pub few : fed .held ≤ 36
-  pub holds : take (fed .held) text ≡ heldAfter line part
+-- a part was printed behind a line: the lines that ended in it are put from byte `at` on into `before`, which is now `after`, in at most
+-- 147 bytes for a byte of the part
+pub record IsPrinted (line part : List ℕ) (at : ℕ) (before after : List ℕ) (fed : Fed) : Type 0 where
   pub prints : Put at (printedAfter line part) before after (fed .at)
   pub within : fed .at ≤ at + 147 * length part
+
+-- ---- the 36 bytes in which a line is held, and how many of them are: a line end lets go of them all, and they stay as they are; any other
+-- byte is stored behind those that are held, but for one behind 36, which is stored nowhere
+abbrev pub oneMore : ℕ → ℕ
+oneMore n = cond (ltb n 36) (n + 1) n
+
+abbrev pub countIf : (isEnd : Bool) → ℕ → ℕ
+countIf true n = 0
+countIf false n = oneMore n
+
+abbrev pub textIf : (isEnd : Bool) → ℕ → List ℕ → ℕ → List ℕ
+textIf true n text b = text
+textIf false n text b = set text n b
+
+unfoldable pub countAfter : ℕ → List ℕ → ℕ
+countAfter n [] = n
+countAfter n (b ∷ l) = countAfter (countIf (isEnd b) n) l
+
+unfoldable pub textAfter : ℕ → List ℕ → List ℕ → List ℕ
+textAfter n text [] = text
+textAfter n text (b ∷ l) = textAfter (countIf (isEnd b) n) (textIf (isEnd b) n text b) l
+
+-- a part was fed to n bytes held in `before`, which is now `after`: each of its bytes, and what is held of the line that has not ended
+pub record IsFed (n : ℕ) (before part after : List ℕ) (fed : Fed) : Type 0 where
+  pub count : fed .held ≡ countAfter n part
+  pub few : fed .held ≤ 36
+  pub text : after ≡ textAfter n before part
+  pub holds : take (fed .held) after ≡ heldAfter (take n before) part

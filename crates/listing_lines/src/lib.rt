@@ -3,17 +3,15 @@ ghost use mathlib.Core.Path.{_≡_};
 ghost use mathlib.Core.Bool.{true};
 ghost use mathlib.Core.List.{[], _∷_, _++_};
 ghost use Prim.Native.Nat.{_+_, _-_, _*_, _≤_, _<_};
-ghost use lib.ListN.{length, take, drop};
-ghost use Rattle.angles.specs.Sines.{sines};
-ghost use Rattle.places.specs.Answer.{placeAnswer};
+ghost use lib.ListN.{length, take, drop, set};
+ghost use Rattle.angles.specs.Sines.{sineEntries};
 ghost use Rattle.listing_lines.specs.Request.{isDigit, digitsOf, wholeOf, withSign, spaceAt, askedOf, requestOf};
 ghost use Rattle.listing_lines.specs.Decimal.{decimalOf, signedOf};
 ghost use Rattle.listing_lines.specs.Line.{textOf, numbersOf, answerOf, lineOf, printedOf};
 ghost use Rattle.listing_lines.specs.Put.{Put};
-ghost use Rattle.listing_lines.specs.Stream.{lastOf, IsFed};
+ghost use Rattle.listing_lines.specs.Stream.{lastOf, oneMore, IsFed, IsPrinted};
 use dates::Date;
-use dates::Moment;
-use frames::Turned;
+use places::PlaceAnswer;
 use refusals::Refusal;
 
 // The number that one to ten digits stand for.
@@ -144,7 +142,7 @@ pub fn request_in(line: &[u8]) -> Request
     asked(minute, body, frame)
 }
 
-// One byte at a place, and the place behind it.
+// One byte at byte `at`, and the byte behind it.
 fn put_byte(b: u8, bytes: &mut [u8], at: usize) -> usize
     requires { ⌜ at < length (now bytes) ⌝ }
     ensures { λ r. ⌜ Put at (b ∷ []) (now (bytes .entry)) (now (bytes .exit)) r ⌝ }
@@ -160,7 +158,7 @@ fn digit_byte(n: u64) -> u8
     48 + (n as u8)
 }
 
-// A number's digits at a place: those of its tenth, then its last.
+// A number's digits from byte `at` on: those of its tenth, then its last.
 fn put_decimal(n: u64, bytes: &mut [u8], at: usize) -> usize
     requires { ⌜ at + length (decimalOf n) ≤ length (now bytes) ⌝ }
     ensures { λ r. ⌜ Put at (decimalOf n) (now (bytes .entry)) (now (bytes .exit)) r ⌝ }
@@ -207,49 +205,40 @@ fn put_numbers(numbers: [i64; 7], bytes: &mut [u8], at: usize) -> usize
     put_field(numbers[6], b'\n', &mut *bytes, next)
 }
 
-fn numbers_of(minute: i64, body: i64, frame: i64, answer: Turned) -> [i64; 7]
-    ensures { λ r. ⌜ r ≡ numbersOf minute body frame answer ⌝ }
+fn numbers_of(body: i64, frame: i64, answer: PlaceAnswer) -> [i64; 7]
+    ensures { λ r. ⌜ r ≡ numbersOf body frame answer ⌝ }
 {
     match answer {
-        Turned::Vector(p) => [minute, body, frame, 0, p.x, p.y, p.z],
-        Turned::Refused(refusal) => [0, 0, 0, refusals::number(refusal), 0, 0, 0],
+        PlaceAnswer::Found(minute, p) => [minute, body, frame, 0, p.x, p.y, p.z],
+        PlaceAnswer::Refused(refusal) => [0, 0, 0, refusals::number(refusal), 0, 0, 0],
     }
 }
 
-// The place on whole minutes, by the sine table that is lent.
-fn place_by(table: &[u32; 901], minute: i64, body: i64, frame: i64) -> Turned
-    requires { ⌜ now table ≡ sines ⌝ }
-    ensures { λ r. ⌜ r ≡ placeAnswer (Date.Minutes minute) body frame ⌝ }
-{
-    match dates::moment_of(Date::Minutes(minute)) {
-        Moment::Accepted(m) => places::place_at_by(table, m, body, frame),
-        Moment::Refused(refusal) => Turned::Refused(refusal),
-    }
-}
-
-fn answer_by(table: &[u32; 901], request: Request) -> [i64; 7]
-    requires { ⌜ now table ≡ sines ⌝ }
+fn answer_to(sines: &[u32; 901], request: Request) -> [i64; 7]
+    requires { ⌜ now sines ≡ sineEntries ⌝ }
     ensures { λ r. ⌜ r ≡ answerOf request ⌝ }
 {
     match request {
-        Request::Asked(m, b, f) => numbers_of(m, b, f, place_by(table, m, b, f)),
+        Request::Asked(m, b, f) => {
+            numbers_of(b, f, places::place_after(sines, Date::Minutes(m), 0, b, f))
+        }
         Request::NoRequest => [0, 0, 0, refusals::number(Refusal::NoRow), 0, 0, 0],
     }
 }
 
-// The printed line of a request at a place, at most 147 bytes with its line end, and the place behind it.
-pub fn put_line(table: &[u32; 901], request: Request, bytes: &mut [u8], at: usize) -> usize
-    requires { ⌜ now table ≡ sines ⌝ }
+// The printed line of a request from byte `at` on, at most 147 bytes with its line end, and the byte behind it.
+pub fn put_line(sines: &[u32; 901], request: Request, bytes: &mut [u8], at: usize) -> usize
+    requires { ⌜ now sines ≡ sineEntries ⌝ }
     requires { ⌜ at + 147 ≤ length (now bytes) ⌝ }
     ensures { λ r. ⌜ Put at (lineOf request) (now (bytes .entry)) (now (bytes .exit)) r × (r ≤ at + 147) ⌝ }
 {
-    put_numbers(answer_by(table, request), bytes, at)
+    put_numbers(answer_to(sines, request), bytes, at)
 }
 
-// One byte more of a line. Of a long line the first 36 bytes are held, which are no request either.
+// One byte more of a line. Of a long line the first 36 bytes are held, which are no request either; the byte past them is not stored.
 fn keep(b: u8, text: &mut [u8], held: usize) -> usize
     requires { ⌜ (held ≤ 36) × (length (now text) ≡ 36) ⌝ }
-    ensures { λ r. ⌜ (r ≤ 36) × (take r (now (text .exit)) ≡ take 36 (take held (now (text .entry)) ++ (b ∷ []))) ⌝ }
+    ensures { λ r. ⌜ (r ≡ oneMore held) × (now (text .exit) ≡ set (now (text .entry)) held b) ⌝ }
 {
     if held < 36 {
         text[held] = b;
@@ -259,16 +248,16 @@ fn keep(b: u8, text: &mut [u8], held: usize) -> usize
 }
 
 // The printed line of what is held of a line.
-fn put_held(table: &[u32; 901], text: &[u8], held: usize, bytes: &mut [u8], at: usize) -> usize
-    requires { ⌜ now table ≡ sines ⌝ }
+fn put_held(sines: &[u32; 901], text: &[u8], held: usize, bytes: &mut [u8], at: usize) -> usize
+    requires { ⌜ now sines ≡ sineEntries ⌝ }
     requires { ⌜ held ≤ length (now text) ⌝ }
     requires { ⌜ at + 147 ≤ length (now bytes) ⌝ }
     ensures { λ r. ⌜ Put at (printedOf (take held (now (text .entry)))) (now (bytes .entry)) (now (bytes .exit)) r × (r ≤ at + 147) ⌝ }
 {
-    put_line(table, request_in(&text[..held]), bytes, at)
+    put_line(sines, request_in(&text[..held]), bytes, at)
 }
 
-// How much is held of a line that has not ended, and the place behind what is printed.
+// How much is held of a line that has not ended, and the byte behind what is printed.
 pub struct Fed {
     pub held: usize,
     pub at: usize,
@@ -276,17 +265,18 @@ pub struct Fed {
 
 // A part of the input: the lines that end in it are printed, at most 147 bytes for a byte, and what follows the last is held.
 pub fn feed(
-    table: &[u32; 901],
+    sines: &[u32; 901],
     part: &[u8],
     text: &mut [u8],
     held: usize,
     bytes: &mut [u8],
     at: usize,
 ) -> Fed
-    requires { ⌜ now table ≡ sines ⌝ }
+    requires { ⌜ now sines ≡ sineEntries ⌝ }
     requires { ⌜ (held ≤ 36) × (length (now text) ≡ 36) ⌝ }
     requires { ⌜ at + 147 * length (now part) ≤ length (now bytes) ⌝ }
-    ensures { λ r. ⌜ IsFed (take held (now (text .entry))) (now (part .entry)) at (now (text .exit)) (now (bytes .entry)) (now (bytes .exit)) r ⌝ }
+    ensures { λ r. ⌜ IsFed held (now (text .entry)) (now (part .entry)) (now (text .exit)) r ⌝ }
+    ensures { λ r. ⌜ IsPrinted (take held (now (text .entry))) (now (part .entry)) at (now (bytes .entry)) (now (bytes .exit)) r ⌝ }
 {
     let mut n = held;
     let mut next = at;
@@ -295,7 +285,7 @@ pub fn feed(
         let b = part[i];
         i += 1;
         if b == b'\n' {
-            next = put_held(table, &*text, n, &mut *bytes, next);
+            next = put_held(sines, &*text, n, &mut *bytes, next);
             n = 0;
         } else {
             n = keep(b, &mut *text, n);
@@ -305,8 +295,8 @@ pub fn feed(
 }
 
 // The end of the input: what is held is a line without its end, where it is not empty.
-pub fn put_last(table: &[u32; 901], text: &[u8], held: usize, bytes: &mut [u8], at: usize) -> usize
-    requires { ⌜ now table ≡ sines ⌝ }
+pub fn put_last(sines: &[u32; 901], text: &[u8], held: usize, bytes: &mut [u8], at: usize) -> usize
+    requires { ⌜ now sines ≡ sineEntries ⌝ }
     requires { ⌜ held ≤ length (now text) ⌝ }
     requires { ⌜ at + 147 ≤ length (now bytes) ⌝ }
     ensures { λ r. ⌜ Put at (lastOf (take held (now (text .entry)))) (now (bytes .entry)) (now (bytes .exit)) r × (r ≤ at + 147) ⌝ }
@@ -314,5 +304,5 @@ pub fn put_last(table: &[u32; 901], text: &[u8], held: usize, bytes: &mut [u8], 
     if held == 0 {
         return at;
     }
-    put_held(table, text, held, bytes, at)
+    put_held(sines, text, held, bytes, at)
 }

@@ -1,49 +1,36 @@
 -- Bounds for any elements in range: x' is at most 50 au, y' at most 45 au, a coefficient at most 10^9 + 10, a coordinate at most 10^9.
 -- A coefficient is a sum of two products of sines and cosines; |a b| + |c d| is at most half of a² + c² + b² + d², and the squares of
 -- a sine and its cosine add up to nearly 10^18.
-use mathlib.Core.Path.{_≡_, refl, sym, ap, _∙_}
-use Prim.Native.Nat.{ℕ, zero, suc, _+_, _-_, _*_, _/_, _≤_, _<_, _^_}
+use mathlib.Core.Path.{_≡_, ap, sym, _∙_}
+use Prim.Native.Nat.{ℕ, _+_, _-_, _*_, _/_, _≤_}
 use native.Mathlib.Nat as NatL
-use native.Mathlib.Decide.{decLt}
 use native.Mathlib.Omega.{arith}
-use lib.Dec.{T, leb, le→leb, leb→le}
-use lib.IntN.{ℤ, pos, negsuc, negℤ, natAbs, _+ℤ_, _-ℤ_, _*ℤ_}
-use lib.Signed.{_≤ℤ_}
+use lib.IntN.{ℤ, pos, negℤ, natAbs, _+ℤ_, _-ℤ_, _*ℤ_}
 use Rattle.integers.specs.Range.{Within}
-use Rattle.integers.specs.Floor.{floorDiv, unitProduct, endTurn}
-use Rattle.integers.specs.Root.{IsRoot, rootOf}
+use Rattle.integers.specs.Floor.{unitProduct, endTurn}
+use Rattle.integers.specs.Root.{rootOf, IsRoot}
 use Rattle.integers.proofs.Difference.{zarith, d-minus}
-use Rattle.integers.proofs.Ring.{abs-mul, abs-neg, abs-mul-le, abs-add-le, abs-sub-le}
-use Rattle.integers.proofs.Roots.{square-mono, root-is}
-use Rattle.integers.proofs.Number.{w-mul, w-add, w-sub, w-neg, w-more, w-floor, w-lit, w-floor<}
+use Rattle.integers.proofs.Ring.{abs-mul}
+use Rattle.integers.specs.Triple.{PartsWithin}
+use Rattle.integers.proofs.Roots.{root-is, root-most}
+use Rattle.integers.proofs.Squares.{square-mono, mean}
+use Rattle.integers.proofs.Ends.{end-turn-within}
+use Rattle.integers.proofs.Ranges.{range-size, range-most}
+use Rattle.integers.proofs.Triples.{three}
+use Rattle.integers.proofs.Number.{w-mul, w-add, w-sub, w-neg, w-floor, w-lit, w-floor<}
 use Rattle.angles.specs.Sine.{sineOf, cosineOf}
 use Rattle.angles.proofs.Laws.{sine-small, cosine-small}
-use Rattle.angles.proofs.Squares.{Unit, squares}
+use Rattle.angles.proofs.Squares.{NearCircle, squares}
 use Rattle.angles.specs.Unit.{hundredMillionths}
 use Rattle.kepler.specs.Equation.{Elliptic}
 use Rattle.kepler.specs.Eccentric.{eccentric}
-use Rattle.orbits.specs.Elements.{meanAnomalyOf, argumentOf, inclinationOf, nodeOf}
-use Rattle.orbits.specs.Place.{minorOf, planeX, planeY, coefficientsBy, coefficientsOf, eclipticOf, placeOf}
-use Rattle.orbits.specs.Range.{AxisFits, ElementsFit, Bounded, Near}
+use Rattle.orbits.specs.Elements.{argumentOf, inclinationOf, nodeOf}
+use Rattle.orbits.specs.Place.{minorOf, planeX, planeY, coefficientsOf, eclipticOf, placeOf}
+use Rattle.orbits.specs.Range.{AxisFits, ElementsFit, Bounded}
 use Rattle.orbits.specs.declared.Elements.{Elements}
 use Rattle.orbits.specs.declared.Coefficients.{Coefficients}
 
--- ---- eccentricities and the minor axis
-pub elliptic-small : (e : ℤ) → Elliptic e → natAbs e ≤ 90000000
-elliptic-small (pos n) h = leb→le n 90000000 (h .high .le)
-elliptic-small (negsuc n) h = absurd (h .low .le)
-
-pub elliptic-size : (e : ℤ) → Elliptic e → pos (natAbs e) ≡ e
-elliptic-size (pos n) h = refl
-elliptic-size (negsuc n) h = absurd (h .low .le)
-
-pub root-most : (x r : ℕ) → r * r ≤ x → x ≤ 1000000000000000000 → r ≤ 1000000000
-root-most x r h l = go (decLt 1000000000 r)
-  where
-    go : Dec (1000000000 < r) → r ≤ 1000000000
-    go (yes d) = let q = square-mono 1000000001 r d in absurd (omega arith)
-    go (no d) = omega arith
-
+-- ---- the minor axis
 pub e-squared : (e : ℕ) → e ≤ 90000000 → e * e ≤ 8100000000000000
 e-squared e h = square-mono e 90000000 h
 
@@ -55,12 +42,19 @@ minor-is e h =
     let d : pos 1000000000000000000 -ℤ pos (10 * e * (10 * e)) ≡ pos (1000000000000000000 - 100 * e * e) = omega (zarith, d-minus (pos 1000000000000000000) (pos (10 * e * (10 * e)))) in
     ap (λ (z : ℤ). pos (rootOf (natAbs z))) d
 
+-- step 4's own words: "the greatest whole number with f² ≤ 10^18 - (10e)²"
+pub minor-is-root : (e : ℤ) → Elliptic e → IsRoot (1000000000000000000 - 10 * natAbs e * (10 * natAbs e)) (natAbs (minorOf e))
+minor-is-root e h =
+    let n = natAbs e in
+    let x : ℕ = 1000000000000000000 - 100 * natAbs e * natAbs e in
+    let f : natAbs (minorOf e) ≡ rootOf (1000000000000000000 - 100 * natAbs e * natAbs e) = ap (λ (z : ℤ). natAbs (minorOf z)) (sym (range-size 0 e h)) ∙ ap natAbs (minor-is (natAbs e) (range-most 0 e h)) in
+    let g : 10 * natAbs e * (10 * natAbs e) ≡ 100 * natAbs e * natAbs e = omega arith in
+    rw (f, g) (root-is (1000000000000000000 - 100 * natAbs e * natAbs e) (omega arith))
+
 pub minor-small : (e : ℤ) → Elliptic e → Within 1000000000 (minorOf e)
-minor-small (negsuc n) h = absurd (h .low .le)
-minor-small (pos n) h =
-    let s = elliptic-small (pos n) h in
-    let x = 1000000000000000000 - 100 * n * n in
-    record { within = rw (minor-is n s) (root-most (1000000000000000000 - 100 * n * n) (rootOf (1000000000000000000 - 100 * n * n)) (root-is (1000000000000000000 - 100 * n * n) (omega arith) .square) (omega arith)) }
+minor-small e h =
+    let n = natAbs e in
+    record { within = root-most (1000000000000000000 - 10 * natAbs e * (10 * natAbs e)) (natAbs (minorOf e)) 1000000000 (minor-is-root e h .square) (omega arith) }
 
 -- ---- the place in the plane
 pub plane-x-small : (a e E : ℤ) → AxisFits a e → Within 500000000 (planeX a e E)
@@ -76,23 +70,6 @@ plane-y-small a e E f =
     w-floor 999999999 450000000 (w-mul (w-floor 9999999999 450000000 (w-mul axis (minor-small e (f .elliptic))) tt) (sine-small E)) tt
 
 -- ---- the coefficients
-mean : (a b : ℕ) → 2 * (a * b) ≤ a * a + b * b
-mean a b = go (decLt a b)
-  where
-    by : (x d : ℕ) → 2 * (x * (x + d)) ≤ x * x + (x + d) * (x + d)
-    by x d = omega arith
-
-    go : Dec (a < b) → 2 * (a * b) ≤ a * a + b * b
-    go (yes l) =
-        let e : a + (b - a) ≡ b = omega arith in
-        let g = by a (b - a) in
-        rw e at g
-    go (no l) =
-        let e : b + (a - b) ≡ a = omega arith in
-        let g = by b (a - b) in
-        let h = rw e at g in
-        omega arith
-
 -- a ∘ b is at most |a b| / 10^9 + 1
 rounded : (a b : ℤ) (n : ℕ) → natAbs a * natAbs b ≤ n → Within (n / 1000000000 + 1) (unitProduct a b)
 rounded a b n h =
@@ -100,7 +77,7 @@ rounded a b n h =
     w-floor< 1000000000 (n / 1000000000 + 1) (omega arith) p (omega arith)
 
 -- a ∘ b ± (c ∘ d) ∘ i, where a, d and b, c are the sine and cosine of two angles
-module _ (a b c d i : ℤ) (one : Unit (natAbs a) (natAbs c)) (two : Unit (natAbs b) (natAbs d)) (s : Within 1000000000 i) where
+module _ (a b c d i : ℤ) (one : NearCircle (natAbs a) (natAbs c)) (two : NearCircle (natAbs b) (natAbs d)) (s : Within 1000000000 i) where
   -- the two products together
   sum : natAbs a * natAbs b + natAbs c * natAbs d ≤ 1000000001300000000
   sum =
@@ -132,7 +109,7 @@ module _ (a b c d i : ℤ) (one : Unit (natAbs a) (natAbs c)) (two : Unit (natAb
   neg-plus : Within 1000000010 (negℤ (unitProduct a b) +ℤ unitProduct (unitProduct c d) i)
   neg-plus = record { within = NatL.le-trans (w-add (w-neg first) second .within) both }
 
-flipped : {s c : ℕ} → Unit s c → Unit c s
+flipped : {s c : ℕ} → NearCircle s c → NearCircle c s
 flipped u = record { low = omega (arith, u .low); high = omega (arith, u .high) }
 
 product-small : {a b : ℤ} → Within 1000000000 a → Within 1000000000 b → Within 1000000010 (unitProduct a b)
@@ -159,19 +136,19 @@ bounded ω Ω I =
 
 -- ---- the coordinates
 coordinate-small : {p q x y : ℤ} → Within 1000000010 p → Within 1000000010 q → Within 500000000 x → Within 450000000 y → Within 1000000000 (endTurn (p *ℤ x +ℤ q *ℤ y))
-coordinate-small a b c d = w-floor 999999999 1000000000 (w-add (w-mul a c) (w-mul b d)) tt
+coordinate-small a b c d = end-turn-within 1000000000 (w-add (w-mul a c) (w-mul b d)) (omega arith)
 
-pub ecliptic-near : (k : Coefficients) (x y : ℤ) → Bounded k → Within 500000000 x → Within 450000000 y → Near 1000000000 (eclipticOf k x y)
-ecliptic-near k x y b h l =
-    record { x = coordinate-small (b .px) (b .qx) h l; y = coordinate-small (b .py) (b .qy) h l; z = coordinate-small (b .pz) (b .qz) h l }
+ecliptic-within : (k : Coefficients) (x y : ℤ) → Bounded k → Within 500000000 x → Within 450000000 y → PartsWithin 1000000000 (eclipticOf k x y)
+ecliptic-within k x y b h l = three (coordinate-small (b .px) (b .qx) h l) (coordinate-small (b .py) (b .qy) h l) (coordinate-small (b .pz) (b .qz) h l)
 
-pub elements-near : (el : Elements) → ElementsFit el → Near 1000000000 (placeOf el)
+-- every coordinate is at most 10^9, that is 100 au
+pub place-within : (el : Elements) (M : ℤ) → ElementsFit el → PartsWithin 1000000000 (placeOf el M)
 unfolding placeOf
-elements-near el f =
+place-within el M f =
     let a = hundredMillionths (el .a) in
     let e = hundredMillionths (el .e) in
-    let E = eccentric e (meanAnomalyOf el) in
+    let E = eccentric e M in
     let ω = argumentOf el in
     let Ω = nodeOf el in
     let I = inclinationOf el in
-    ecliptic-near (coefficientsOf ω Ω I) (planeX a e E) (planeY a e E) (bounded ω Ω I) (plane-x-small a e E (f .axis)) (plane-y-small a e E (f .axis))
+    ecliptic-within (coefficientsOf ω Ω I) (planeX a e E) (planeY a e E) (bounded ω Ω I) (plane-x-small a e E (f .axis)) (plane-y-small a e E (f .axis))

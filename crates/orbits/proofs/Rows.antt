@@ -1,144 +1,137 @@
--- Table 1's rows are in range, and give elements in range on every minute within two centuries, for every body.
--- An element drifts by at most twice its rate, so one computed test over the nine rows of the table shows it.
-use mathlib.Core.Bool.{Bool, true, false}
-use mathlib.Core.List.{List, [], _∷_}
-use mathlib.Core.Path.{_≡_, refl, sym, subst, ap, _∙_}
-use Prim.Native.Nat.{ℕ, zero, suc, _+_, _-_, _*_, _≤_, _<_}
+-- A row of twelve whose numbers hold their bounds at the two ends of a span of minutes gives elements in range on every minute between.
+-- A drift lies between those at the two ends (`drift-between`), so that two tests do for all minutes; computed over Table 1's rows.
+use lib.Signed.{_≤ℤ_}
+use mathlib.Core.Bool.{Bool, _&&_}
+use mathlib.Core.List.{List}
+use Prim.Native.Nat.{ℕ, _+_, _-_, _*_, _≤_, _<_}
 use native.Mathlib.Nat as NatL
 use native.Mathlib.Omega.{arith}
-use lib.Dec.{T, leb, leb→le, ltb→lt}
-use lib.IntN.{ℤ, pos, negsuc, natAbs, _+ℤ_, _*ℤ_}
-use lib.Signed.{leZ, _≤ℤ_}
-use lib.ListN.{length, getD}
-use Rattle.integers.specs.Range.{Within}
-use Rattle.integers.specs.Floor.{floorDiv}
-use Rattle.integers.proofs.Difference.{up, dn, zarith, d-add, d-abs}
-use Rattle.integers.proofs.Number.{w-mul, w-lit, w-floor<, w-add, w-more, w-most}
-use Rattle.integers.proofs.Table.{both, both-left, both-right, allWithin, all-within}
-use Rattle.kepler.specs.Equation.{Elliptic}
-use Rattle.orbits.specs.Table.{table1, rowOf}
-use Rattle.orbits.specs.Elements.{elementAt, elementIn, elementsAt}
-use Rattle.orbits.specs.Place.{placeOf, placeAt}
-use Rattle.orbits.specs.Range.{RowFits, MinuteFits, AxisFits, ElementsFit, IsBody, TwoCenturies, Near}
-use Rattle.orbits.proofs.Bounds.{elements-near}
+use lib.Dec.{T, leb, leb→le}
+use lib.IntN.{ℤ, pos, negsuc, natAbs}
+use mir.Facts.{and-yes}
+use Rattle.integers.specs.Range.{Within, FromTo, isFromTo}
+use Rattle.integers.specs.Triple.{at, PartsWithin}
+use Rattle.integers.proofs.Difference.{zarith}
+use Rattle.integers.proofs.Number.{w-add, w-more}
+use Rattle.integers.proofs.Table.{allWithin, all-within, at-row}
+use Rattle.integers.proofs.Ranges.{of-test, range-within, range-most}
+use Rattle.dates.specs.declared.Interval.{Interval}
+use Rattle.dates.specs.Minute.{driftOf}
+use Rattle.dates.specs.Moment.{Covers}
+use Rattle.dates.proofs.Laws.{drift-within, drift-between}
+use Rattle.tables.specs.Table.{table1, Body, tableRow, interval1}
+use Rattle.orbits.specs.Elements.{elementIn, elementsAt, meanAnomalyOf}
+use Rattle.orbits.specs.Place.{placeAt}
+use Rattle.orbits.specs.Range.{RowFits, AxisFits, ElementsFit}
+use Rattle.orbits.proofs.Bounds.{place-within}
 
--- ---- a test over every row of a table
-abbrev all : (List ℤ → Bool) → List (List ℤ) → Bool
-all f [] = true
-all f (r ∷ rs) = both (f r) (all f rs)
+-- ---- an element on every minute of a span
+pub element-between : (row : List ℤ) (k : ℕ) (span : Interval) (m lo hi : ℤ) → Covers span m → FromTo lo hi (elementIn row k (span .first)) → FromTo lo hi (elementIn row k (span .last)) → FromTo lo hi (elementIn row k m)
+element-between row k span m lo hi h a b = drift-between (at row k) (at row (k + 6)) (span .first) (span .last) m lo hi h a b
 
-at-row : (f : List ℤ → Bool) (rs : List (List ℤ)) → T (all f rs) → (k : ℕ) → k < length rs → T (f (getD rs k []))
-at-row f [] t k h = absurd (NatL.not-suc-le-zero h)
-at-row f (r ∷ rs) t zero h = both-left (f r) (all f rs) t
-at-row f (r ∷ rs) t (suc k) h = at-row f rs (both-right (f r) (all f rs) t) k (NatL.le-of-suc-le-suc h)
+-- the larger of two
+abbrev most : ℕ → ℕ → ℕ
+most x y = x + (y - x)
 
--- ---- a row in range: its numbers are small; a and e stay in range when they drift by twice their rates
-abbrev entry : List ℤ → ℕ → ℤ
-entry row k = getD row k (pos 0)
+-- ---- what is asked of a row and a span: small numbers, and a and e in range at both ends
+module _ (span : Interval) (row : List ℤ) where
+  abbrev aMost : ℕ
+  aMost = most (natAbs (elementIn row 0 (span .first))) (natAbs (elementIn row 0 (span .last)))
 
-record Ranged (row : List ℤ) : Type 0 where
+  abbrev eMost : ℕ
+  eMost = most (natAbs (elementIn row 1 (span .first))) (natAbs (elementIn row 1 (span .last)))
+
+  -- an element is not negative at either end
+  abbrev risen : ℕ → Bool
+  risen k = isFromTo (pos 0) (pos (most (natAbs (elementIn row k (span .first))) (natAbs (elementIn row k (span .last))))) (elementIn row k (span .first)) && isFromTo (pos 0) (pos (most (natAbs (elementIn row k (span .first))) (natAbs (elementIn row k (span .last))))) (elementIn row k (span .last))
+
+  abbrev pub spans : Bool
+  spans = allWithin 100000000000000 row && (risen 0 && (risen 1 && (leb aMost 4500000000 && (leb eMost 90000000 && leb (aMost * (100000000 + eMost)) 500000000000000000))))
+
+-- the same as facts
+pub record Spans (span : Interval) (row : List ℤ) : Type 0 where
   pub each : T (allWithin 100000000000000 row)
-  pub a-pos : pos 0 ≤ℤ entry row 0
-  pub e-pos : pos 0 ≤ℤ entry row 1
-  pub a-low : 2 * natAbs (entry row 6) ≤ natAbs (entry row 0)
-  pub e-low : 2 * natAbs (entry row 7) ≤ natAbs (entry row 1)
-  pub a-high : natAbs (entry row 0) + 2 * natAbs (entry row 6) ≤ 4500000000
-  pub e-high : natAbs (entry row 1) + 2 * natAbs (entry row 7) ≤ 90000000
-  pub far : (natAbs (entry row 0) + 2 * natAbs (entry row 6)) * (100000000 + (natAbs (entry row 1) + 2 * natAbs (entry row 7))) ≤ 500000000000000000
+  pub a : T (risen span row 0)
+  pub e : T (risen span row 1)
+  pub a-high : aMost span row ≤ 4500000000
+  pub e-high : eMost span row ≤ 90000000
+  pub far : aMost span row * (100000000 + eMost span row) ≤ 500000000000000000
 
--- each part of it is one test, computed over the nine rows
-module _ (k : ℕ) (h : k < 9) where
-  abbrev row : List ℤ
-  row = getD table1 k []
+pub spans-by : (span : Interval) (row : List ℤ) → T (spans span row) → Spans span row
+spans-by span row t =
+    let high = leb (aMost span row) 4500000000 in
+    let long = leb (eMost span row) 90000000 in
+    let far = leb (aMost span row * (100000000 + eMost span row)) 500000000000000000 in
+    let x = and-yes (allWithin 100000000000000 row) (risen span row 0 && (risen span row 1 && (high && (long && far)))) t in
+    let y = and-yes (risen span row 0) (risen span row 1 && (high && (long && far))) (x .1) in
+    let z = and-yes (risen span row 1) (high && (long && far)) (y .1) in
+    let u = and-yes high (long && far) (z .1) in
+    let v = and-yes long far (u .1) in
+    record {
+      each = x .0;
+      a = y .0;
+      e = z .0;
+      a-high = leb→le (aMost span row) 4500000000 (u .0);
+      e-high = leb→le (eMost span row) 90000000 (v .0);
+      far = leb→le (aMost span row * (100000000 + eMost span row)) 500000000000000000 (v .1);
+    }
 
-  by : (f : List ℤ → Bool) → T (all f table1) → T (f row)
-  unfolding table1
-  by f t = at-row f table1 t k h
+-- ---- the elements on a minute of the span, of which no end is beyond 50 centuries
+module _ (span : Interval) (row : List ℤ) (s : Spans span row) (first-near : Within 2630000000 (span .first)) (last-near : Within 2630000000 (span .last)) (m : ℤ) (h : Covers span m) where
+  minute : Within 2630000000 m
+  minute = range-within (span .first) (span .last) m 2630000000 h (first-near .within) (last-near .within)
 
-  ranged : Ranged row
-  unfolding table1
-  ranged =
-      record {
-        each = by (λ (r : List ℤ). allWithin 100000000000000 r) tt;
-        a-pos = record { le = by (λ (r : List ℤ). leZ (pos 0) (entry r 0)) tt };
-        e-pos = record { le = by (λ (r : List ℤ). leZ (pos 0) (entry r 1)) tt };
-        a-low = leb→le (2 * natAbs (entry row 6)) (natAbs (entry row 0)) (by (λ (r : List ℤ). leb (2 * natAbs (entry r 6)) (natAbs (entry r 0))) tt);
-        e-low = leb→le (2 * natAbs (entry row 7)) (natAbs (entry row 1)) (by (λ (r : List ℤ). leb (2 * natAbs (entry r 7)) (natAbs (entry r 1))) tt);
-        a-high = leb→le (natAbs (entry row 0) + 2 * natAbs (entry row 6)) 4500000000 (by (λ (r : List ℤ). leb (natAbs (entry r 0) + 2 * natAbs (entry r 6)) 4500000000) tt);
-        e-high = leb→le (natAbs (entry row 1) + 2 * natAbs (entry row 7)) 90000000 (by (λ (r : List ℤ). leb (natAbs (entry r 1) + 2 * natAbs (entry r 7)) 90000000) tt);
-        far =
-            leb→le ((natAbs (entry row 0) + 2 * natAbs (entry row 6)) * (100000000 + (natAbs (entry row 1) + 2 * natAbs (entry row 7)))) 500000000000000000
-            (by (λ (r : List ℤ). leb ((natAbs (entry r 0) + 2 * natAbs (entry r 6)) * (100000000 + (natAbs (entry r 1) + 2 * natAbs (entry r 7)))) 500000000000000000) tt);
-      }
+  pub row-fits : RowFits row m
+  row-fits = record { each = all-within 100000000000000 row (s .each); minute = minute }
 
--- ---- in two centuries an element drifts by at most twice its rate
-drift : (rate m : ℤ) → Within 105192000 m → Within (2 * natAbs rate) (floorDiv (rate *ℤ m) 52596000)
-drift rate m h = w-floor< 52596000 (2 * natAbs rate) (omega arith) (w-mul (w-lit rate) h) (omega arith)
-
--- so an element that is at least that stays on its side, and within its sum
-record Stays (x : ℤ) (n : ℕ) : Type 0 where
-  pub low : pos 0 ≤ℤ x
-  pub high : natAbs x ≤ n
-
-stays : (x0 d : ℤ) (n : ℕ) → pos 0 ≤ℤ x0 → Within n d → n ≤ natAbs x0 → Stays (x0 +ℤ d) (natAbs x0 + n)
-stays (negsuc x0) d n p w l = absurd (p .le)
-stays (pos x0) d n p w l =
-    let e = d-add (pos x0) d in
-    let a = d-abs d in
-    let h = w .within in
-    record { low = omega (zarith, e, a); high = w-add (w-lit (pos x0)) w .within }
-
-module _ (row : List ℤ) (r : Ranged row) (m : ℤ) (t : TwoCenturies m) where
-  a : Stays (elementIn row 0 m) (natAbs (entry row 0) + 2 * natAbs (entry row 6))
-  a = stays (entry row 0) (floorDiv (entry row 6 *ℤ m) 52596000) (2 * natAbs (entry row 6)) (r .a-pos) (drift (entry row 6) m (t .minute)) (r .a-low)
-
-  e : Stays (elementIn row 1 m) (natAbs (entry row 1) + 2 * natAbs (entry row 7))
-  e = stays (entry row 1) (floorDiv (entry row 7 *ℤ m) 52596000) (2 * natAbs (entry row 7)) (r .e-pos) (drift (entry row 7) m (t .minute)) (r .e-low)
-
-  e-size : natAbs (elementIn row 1 m) ≤ 90000000
-  e-size = NatL.le-trans (e .high) (r .e-high)
+  -- one of a and e
+  stays : (k : ℕ) → T (risen span row k) → FromTo (pos 0) (pos (most (natAbs (elementIn row k (span .first))) (natAbs (elementIn row k (span .last))))) (elementIn row k m)
+  stays k t =
+      let hi = pos (most (natAbs (elementIn row k (span .first))) (natAbs (elementIn row k (span .last)))) in
+      let b = and-yes (isFromTo (pos 0) hi (elementIn row k (span .first))) (isFromTo (pos 0) hi (elementIn row k (span .last))) t in
+      element-between row k span m (pos 0) hi h (of-test (pos 0) hi (elementIn row k (span .first)) (b .0)) (of-test (pos 0) hi (elementIn row k (span .last)) (b .1))
 
   axis : AxisFits (elementIn row 0 m) (elementIn row 1 m)
   axis =
+      let a = range-most 0 (elementIn row 0 m) (stays 0 (s .a)) in
+      let e = stays 1 (s .e) in
+      let l = range-most 0 (elementIn row 1 m) e in
       record {
-        axis = NatL.le-trans (a .high) (r .a-high);
-        elliptic = record { low = e .low; high = at-most (elementIn row 1 m) (e .low) e-size };
-        aphelion = NatL.le-trans (NatL.mul-le-mul (a .high) (NatL.add-le-add (NatL.le-refl 100000000) (e .high))) (r .far);
+        axis = NatL.le-trans a (s .a-high);
+        elliptic = record { low = e .low; high = lower (elementIn row 1 m) (e .high) (s .e-high) };
+        aphelion = NatL.le-trans (NatL.mul-le-mul a (NatL.add-le-add (NatL.le-refl 100000000) l)) (s .far);
       }
     where
-      at-most : (z : ℤ) → pos 0 ≤ℤ z → natAbs z ≤ 90000000 → z ≤ℤ pos 90000000
-      at-most (pos n) p h = omega (zarith, h)
-      at-most (negsuc n) p h = absurd (p .le)
+      lower : (z : ℤ) {n : ℕ} → z ≤ℤ pos n → n ≤ 90000000 → z ≤ℤ pos 90000000
+      lower z p q = omega (zarith, p)
 
-  numbers : (k : ℕ) → Within 100000000000000 (entry row k)
-  numbers k = all-within 100000000000000 row (r .each) k
+  angle : (k : ℕ) → Within 4000000000000000000 (elementIn row k m)
+  angle k = w-more (w-add (row-fits .each k) (drift-within 5100000000000000 (row-fits .each (k + 6)) minute (omega arith))) tt
 
-  two : {z : ℤ} {n : ℕ} → Within (2 * n) z → n ≤ 100000000000000 → Within 200000000000000 z
-  two w l = record { within = omega (arith, w .within) }
+  pub elements-fit : ElementsFit (elementsAt row m)
+  elements-fit = record { axis = axis; longitude = angle 3; perihelion = angle 4; node = angle 5 }
 
-  longitude : (k : ℕ) → Within 4000000000000000000 (elementIn row k m)
-  longitude k =
-      let rate = entry row (k + 6) in
-      let n = numbers (k + 6) in
-      w-more (w-add (numbers k) (two (drift rate m (t .minute)) (n .within))) tt
+-- ---- Table 1
+index : (body : ℤ) → Body body → natAbs body - 1 < 9
+index (pos n) h = omega (zarith, h .low, h .high)
+index (negsuc n) h = absurd (h .low .le)
 
-  fit : ElementsFit (elementsAt row m)
-  fit = record { axis = axis; longitude = longitude 3; perihelion = longitude 4; node = longitude 5 }
+table-spans : (body : ℤ) → Body body → Spans interval1 (tableRow body)
+unfolding table1 driftOf
+table-spans body h = spans-by interval1 (tableRow body) (at-row (spans interval1) table1 tt (natAbs body - 1) (index body h))
 
--- ---- for the bodies of Table 1
-place : (body : ℤ) → IsBody body → natAbs body - 1 < 9
-place (pos n) h = omega (zarith, h .low, h .high)
-place (negsuc n) h = absurd (h .low .le)
+first-near : Within 2630000000 (interval1 .first)
+first-near = record { within = omega arith }
 
-pub row-fits : (body : ℤ) → IsBody body → RowFits (rowOf body)
-row-fits body h = record { each = λ k. all-within 100000000000000 (rowOf body) (ranged (natAbs body - 1) (place body h) .each) k }
+last-near : Within 2630000000 (interval1 .last)
+last-near = record { within = omega arith }
 
-pub elements-fit : (body m : ℤ) → IsBody body → TwoCenturies m → ElementsFit (elementsAt (rowOf body) m)
-elements-fit body m h t = fit (rowOf body) (ranged (natAbs body - 1) (place body h)) m t
+module _ (body m : ℤ) (b : Body body) (h : Covers interval1 m) where
+  pub table-row-fits : RowFits (tableRow body) m
+  table-row-fits = row-fits interval1 (tableRow body) (table-spans body b) first-near last-near m h
 
-pub minute-fits : (m : ℤ) → TwoCenturies m → MinuteFits m
-minute-fits m t = record { minute = w-more (t .minute) tt }
+  pub table-elements-fit : ElementsFit (elementsAt (tableRow body) m)
+  table-elements-fit = elements-fit interval1 (tableRow body) (table-spans body b) first-near last-near m h
 
--- every coordinate of a place is at most 10^9, that is 100 au
-pub place-near : (body m : ℤ) → IsBody body → TwoCenturies m → Near 1000000000 (placeAt (rowOf body) m)
-place-near body m h t = elements-near (elementsAt (rowOf body) m) (elements-fit body m h t)
+  pub table-place-within : PartsWithin 1000000000 (placeAt (tableRow body) m)
+  table-place-within = let el = elementsAt (tableRow body) m in place-within el (meanAnomalyOf el) table-elements-fit

@@ -1,20 +1,15 @@
 -- Document 01, "From date to place", steps 1 and 2: elements, mean anomaly and angles from a row of twelve numbers.
 use Prim.Native.Nat.{ℕ, _+_}
 use mathlib.Core.List.{List}
-use lib.IntN.{ℤ, pos, _+ℤ_, _-ℤ_, _*ℤ_}
+use lib.IntN.{ℤ, pos, _+ℤ_, _-ℤ_}
 use lib.ListN.{getD}
-use Rattle.integers.specs.Floor.{floorDiv}
-use Rattle.angles.specs.declared.Element.{Element}
 use Rattle.angles.specs.Unit.{elementOf, hundredMillionths, inMillionths, oneTurn}
+use Rattle.dates.specs.Minute.{driftOf}
 use Rattle.orbits.specs.declared.Elements.{Elements}
 
--- step 1: x0 + floor(rate·m / 52,596,000), m in minutes
-abbrev pub elementAt : ℤ → ℤ → ℤ → ℤ
-elementAt x0 rate m = x0 +ℤ floorDiv (rate *ℤ m) 52596000
-
--- element k of a row on minute m: its number stands at k, its rate six further
+-- step 1 for element k of a row on minute m, x0 + floor(rate·m / 52,596,000): x0 stands at k, its rate six further
 abbrev pub elementIn : List ℤ → ℕ → ℤ → ℤ
-elementIn row k m = elementAt (getD row k (pos 0)) (getD row (k + 6) (pos 0)) m
+elementIn row k m = getD row k (pos 0) +ℤ driftOf (getD row (k + 6) (pos 0)) m
 
 abbrev pub elementsAt : List ℤ → ℤ → Elements
 elementsAt row m =

@@ -1,6 +1,5 @@
 -- Document 01, "From date to place", steps 3 to 5: from elements to the place in HAE of J2000, in counts of 10^-7 au.
-use Prim.Native.Nat.{ℕ}
-use mathlib.Core.List.{List}
+use mathlib.Core.List.{List, [], _∷_}
 use lib.IntN.{ℤ, pos, negℤ, natAbs, _+ℤ_, _-ℤ_, _*ℤ_}
 use Rattle.integers.specs.Floor.{floorDiv, unitProduct, endTurn}
 use Rattle.integers.specs.Root.{rootOf}
@@ -8,7 +7,6 @@ use Rattle.angles.specs.Unit.{hundredMillionths}
 use Rattle.angles.specs.Sine.{sineOf, cosineOf}
 use Rattle.kepler.specs.Eccentric.{eccentric}
 use Rattle.orbits.specs.declared.Elements.{Elements}
-use Rattle.orbits.specs.declared.Vector.{Vector}
 use Rattle.orbits.specs.declared.InPlane.{InPlane}
 use Rattle.orbits.specs.declared.Coefficients.{Coefficients}
 use Rattle.orbits.specs.Elements.{elementsAt, meanAnomalyOf, argumentOf, inclinationOf, nodeOf}
@@ -43,23 +41,22 @@ coefficientsBy sω cω sΩ cΩ sI cI =
 unfoldable pub coefficientsOf : ℤ → ℤ → ℤ → Coefficients
 coefficientsOf ω Ω I = coefficientsBy (sineOf ω) (cosineOf ω) (sineOf Ω) (cosineOf Ω) (sineOf I) (cosineOf I)
 
--- step 5: each coordinate is floor((P·x' + Q·y') / 10^9)
-abbrev pub eclipticOf : Coefficients → ℤ → ℤ → Vector
+-- step 5: each coordinate is floor((P·x' + Q·y') / 10^9), the division that also ends a turn
+abbrev pub eclipticOf : Coefficients → ℤ → ℤ → List ℤ
 eclipticOf k x y =
-    record {
-      x = endTurn (k .px *ℤ x +ℤ k .qx *ℤ y);
-      y = endTurn (k .py *ℤ x +ℤ k .qy *ℤ y);
-      z = endTurn (k .pz *ℤ x +ℤ k .qz *ℤ y);
-    }
+    endTurn (k .px *ℤ x +ℤ k .qx *ℤ y)
+    ∷ endTurn (k .py *ℤ x +ℤ k .qy *ℤ y)
+    ∷ endTurn (k .pz *ℤ x +ℤ k .qz *ℤ y)
+    ∷ []
 
--- steps 3 to 5, by the elements
-unfoldable pub placeOf : Elements → Vector
-placeOf el =
+-- steps 3 to 5, by the elements and the mean anomaly
+unfoldable pub placeOf : Elements → ℤ → List ℤ
+placeOf el M =
     let a = hundredMillionths (el .a) in
     let e = hundredMillionths (el .e) in
-    let E = eccentric e (meanAnomalyOf el) in
+    let E = eccentric e M in
     eclipticOf (coefficientsOf (argumentOf el) (nodeOf el) (inclinationOf el)) (planeX a e E) (planeY a e E)
 
--- the place of the body whose elements a row of twelve numbers gives, on minute m
-abbrev pub placeAt : List ℤ → ℤ → Vector
-placeAt row m = placeOf (elementsAt row m)
+-- the place on minute m of the body whose elements a row of twelve numbers gives
+abbrev pub placeAt : List ℤ → ℤ → List ℤ
+placeAt row m = let el = elementsAt row m in placeOf el (meanAnomalyOf el)

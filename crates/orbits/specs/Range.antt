@@ -1,23 +1,18 @@
--- The ranges within which a row of twelve numbers gives elements whose place overflows nowhere. They are wider than Table 1 needs:
--- a up to 45 au, a·(1 + e) up to 50 au, e up to 0.9, and as many centuries as the row is used for.
+-- Terms of inner contracts: the ranges within which a row of twelve numbers gives elements whose place overflows nowhere. They are
+-- wider than Table 1 needs: a up to 45 au, a·(1 + e) up to 50 au, e up to 0.9, and 50 centuries either way.
 use mathlib.Core.List.{List}
 use Prim.Native.Nat.{ℕ, _+_, _*_, _≤_}
-use lib.IntN.{ℤ, pos, natAbs}
-use lib.Signed.{_≤ℤ_}
-use lib.ListN.{getD}
+use lib.IntN.{ℤ, natAbs}
 use Rattle.integers.specs.Range.{Within}
+use Rattle.integers.specs.Triple.{at}
 use Rattle.angles.specs.Unit.{hundredMillionths}
 use Rattle.kepler.specs.Equation.{Elliptic}
 use Rattle.orbits.specs.declared.Elements.{Elements}
 use Rattle.orbits.specs.declared.Coefficients.{Coefficients}
-use Rattle.orbits.specs.declared.Vector.{Vector}
 
--- a row's twelve numbers are small enough for step 1
-pub record RowFits (row : List ℤ) : Type 0 where
-  pub each : (k : ℕ) → Within 100000000000000 (getD row k (pos 0))
-
--- the minutes for which step 1 is good: 50 centuries either way
-pub record MinuteFits (m : ℤ) : Type 0 where
+-- a row's numbers and a minute are small enough for step 1
+pub record RowFits (row : List ℤ) (m : ℤ) : Type 0 where
+  pub each : (k : ℕ) → Within 100000000000000 (at row k)
   pub minute : Within 2630000000 m
 
 -- a half-axis and an eccentricity for which step 4 overflows nowhere
@@ -41,18 +36,3 @@ pub record Bounded (k : Coefficients) : Type 0 where
   pub qy : Within 1000000010 (k .qy)
   pub pz : Within 1000000010 (k .pz)
   pub qz : Within 1000000010 (k .qz)
-
--- a place or a vector whose three parts are at most n either way
-pub record Near (n : ℕ) (v : Vector) : Type 0 where
-  pub x : Within n (v .x)
-  pub y : Within n (v .y)
-  pub z : Within n (v .z)
-
--- Table 1's bodies
-pub record IsBody (body : ℤ) : Type 0 where
-  pub low : pos 1 ≤ℤ body
-  pub high : body ≤ℤ pos 9
-
--- Table 1's minutes lie within two centuries either way
-pub record TwoCenturies (m : ℤ) : Type 0 where
-  pub minute : Within 105192000 m

@@ -1,2 +1,5 @@
 -- The laws of `places` that other crates cite.
-pub mod Frames
+--     Earth     no length that HEE or HEEQ divides by is 0 on an accepted date; how long a turned vector is
+--     Answers   what is known of a place that was found, and of a refusal
+pub mod Earth
+pub mod Answers

@@ -1,32 +1,29 @@
 -- Document 01, "Checked examples": those with a star, as one statement over a list, closed by computation.
-use mathlib.Core.Bool.{Bool, true, false, _&&_}
+use mathlib.Core.Bool.{Bool, true, _&&_}
 use mathlib.Core.List.{List, [], _∷_}
 use Prim.Native.Nat.{ℕ}
 use lib.Dec.{T, eqb}
 use lib.IntN.{ℤ, pos, negsuc}
 use lib.Ieee.{binary64, ofBits}
-use Rattle.refusals.specs.Number.{numberOf}
+use Rattle.integers.specs.Sign.{same}
+use Rattle.integers.specs.Floor.{endTurn}
 use Rattle.integers.specs.Root.{rootFrom, rootOf}
 use Rattle.angles.specs.Unit.{oneTurn}
-use Rattle.angles.specs.Entry.{factorial, part, whole, term, plus, minus, entry}
+use Rattle.angles.specs.Entry.{factorial, part, whole, term, plusTerms, minusTerms, entry}
 use Rattle.angles.specs.Sine.{quarterSine, halfSine, sineOf, cosineOf}
 use Rattle.kepler.specs.Equation.{eStar, F, errorOf}
 use Rattle.kepler.specs.Eccentric.{reaches, halved, lastBelow, nearerOf, eccentric}
-use Rattle.kepler.specs.Answer.{solvedOf, anomalyOf}
-use Rattle.kepler.specs.Answer as Kepler
+use Rattle.kepler.specs.Answer.{solvedOf, anomalyStatus, anomalyAngle}
 use Rattle.dates.specs.declared.Date.{Date}
 use Rattle.dates.specs.declared.Date.the-variants.{Julian, Minutes}
-use Rattle.dates.specs.declared.Moment.{Moment}
-use Rattle.dates.specs.declared.Moment.the-variants.{Accepted, Refused}
-use Rattle.dates.specs.Minute.{julianMinute, minuteOfJulian}
-use Rattle.dates.specs.Moment.{tested, momentFrom, momentWithin, momentAfter, momentOf}
-use Rattle.orbits.specs.Table.{table1, rowOf}
+use Rattle.dates.specs.Minute.{julianMinute, minuteOfJulian, driftOf}
+use Rattle.dates.specs.Moment.{tested, momentAt, momentStatus, momentMinute}
+use Rattle.tables.specs.Table.{table1, tableRow, momentAfter}
 use Rattle.orbits.specs.Elements.{elementIn, elementsAt, meanAnomalyOf, inclinationOf}
+use Rattle.frames.specs.declared.Coordinates.{Coordinates}
 use Rattle.frames.specs.Vector.{lengthOf, unitOf, crossOf, applied}
-use Rattle.integers.specs.Sign.{same}
 use Rattle.frames.specs.Frame.{hciRows, solarAxis}
-use Rattle.frames.specs.Answer.{coordinatesOf}
-use Rattle.frames.specs.Answer as Frames
+use Rattle.frames.specs.Answer.{asCoordinates, turnedStatus, turnedVector}
 use Rattle.frames.specs.Rtn.{rtnRows, rtnTurned, toRtn}
 
 -- what an example says
@@ -46,31 +43,20 @@ pub data Example : Type 0 where
   -- a vector at a place r is this one in RTN
   isRtn : List ℤ → List ℤ → List ℤ → Example
 
-abbrev pub sameAll : List ℤ → List ℤ → Bool
-sameAll [] [] = true
-sameAll [] (y ∷ ys) = false
-sameAll (x ∷ xs) [] = false
-sameAll (x ∷ xs) (y ∷ ys) = same x y && sameAll xs ys
-
-abbrev pub accepts : Moment → ℤ → Bool
-accepts (Accepted m) n = same m n
-accepts (Refused r) n = false
-
-abbrev pub refuses : Moment → ℤ → Bool
-refuses (Accepted m) n = false
-refuses (Refused r) n = same (numberOf r) n
+abbrev pub sameCoordinates : Coordinates → Coordinates → Bool
+sameCoordinates p q = same (p .x) (q .x) && (same (p .y) (q .y) && same (p .z) (q .z))
 
 abbrev pub holds : Example → Bool
-holds (isMinute d m) = accepts (momentOf d) m
-holds (isRefused d n) = refuses (momentOf d) n
-holds (isElement body k m x) = same (elementIn (rowOf body) k m) x
-holds (isInclination body m x) = same (inclinationOf (elementsAt (rowOf body) m)) x
-holds (isMean body m x) = same (meanAnomalyOf (elementsAt (rowOf body) m)) x
+holds (isMinute d m) = same (momentStatus (momentAfter d (pos 0))) (pos 0) && same (momentMinute (momentAfter d (pos 0))) m
+holds (isRefused d n) = same (momentStatus (momentAfter d (pos 0))) n
+holds (isElement body k m x) = same (elementIn (tableRow body) k m) x
+holds (isInclination body m x) = same (inclinationOf (elementsAt (tableRow body) m)) x
+holds (isMean body m x) = same (meanAnomalyOf (elementsAt (tableRow body) m)) x
 holds (isSine t x) = same (sineOf t) x
-holds (isAnomaly e M E) = same (Kepler.statusOf (solvedOf e M)) (pos 0) && same (anomalyOf (solvedOf e M)) E
+holds (isAnomaly e M E) = same (anomalyStatus (solvedOf e M)) (pos 0) && same (anomalyAngle (solvedOf e M)) E
 holds (isError e M E n) = eqb (errorOf (eStar e) (oneTurn M) E) n
-holds (isNoAnomaly e M n) = same (Kepler.statusOf (solvedOf e M)) n
-holds (isRtn r v x) = same (Frames.statusOf (toRtn r v)) (pos 0) && sameAll (coordinatesOf (toRtn r v)) x
+holds (isNoAnomaly e M n) = same (anomalyStatus (solvedOf e M)) n
+holds (isRtn r v x) = same (turnedStatus (toRtn r v)) (pos 0) && sameCoordinates (turnedVector (toRtn r v)) (asCoordinates x)
 
 abbrev pub all : List Example → Bool
 all [] = true
@@ -112,5 +98,5 @@ examples =
     ∷ []
 
 pub examples-hold : T (all examples)
-unfolding momentOf momentAfter momentWithin momentFrom tested minuteOfJulian julianMinute ofBits table1 oneTurn sineOf cosineOf halfSine quarterSine entry plus minus term whole part factorial eccentric nearerOf lastBelow halved reaches errorOf F toRtn rtnTurned rtnRows solarAxis hciRows lengthOf unitOf crossOf applied rootOf rootFrom
+unfolding momentAfter momentAt tested minuteOfJulian julianMinute ofBits table1 driftOf oneTurn sineOf cosineOf halfSine quarterSine entry plusTerms minusTerms term whole part factorial eccentric nearerOf lastBelow halved reaches errorOf F toRtn rtnTurned rtnRows solarAxis hciRows lengthOf unitOf crossOf applied endTurn rootOf rootFrom
 examples-hold = tt

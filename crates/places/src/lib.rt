@@ -1,157 +1,131 @@
-// The answers for a date: the place of a body in a frame, in counts and in au, and vectors turned from a frame to a frame.
+// The answers for a date: the place of a body in a frame, in counts and in au, and vectors turned from a frame to a frame. The
+// caller lends the sine table, so that a sheet or a listing builds it once.
 ghost use mathlib.Core.Path.{_≡_};
-ghost use mathlib.Core.List.{[], _∷_};
-ghost use mathlib.Core.Bool.{_&&_};
-ghost use lib.IntN.{pos};
-ghost use Rattle.angles.specs.Sines.{sines};
-ghost use Rattle.orbits.specs.Range.{IsBody, TwoCenturies};
-ghost use Rattle.orbits.specs.Answer.{isBody};
-ghost use Rattle.frames.specs.Range.{PartsWithin, KnownFrame};
-ghost use Rattle.frames.specs.Frame.{turnedBetween};
-ghost use Rattle.frames.specs.Answer.{inReach, placeOf};
-ghost use Rattle.places.specs.Answer.{isFrame, listOf, haeAt, earthAt, placeIf, placeOn, placeAnswer, turnIf, turnOn, turnAnswer, auAnswer};
-ghost use Rattle.places.specs.Earth.{needsEarth, earthIf};
+ghost use mathlib.Core.Bool.{_&&_, _||_};
+ghost use Rattle.integers.specs.Range.{Within};
+ghost use Rattle.integers.specs.Triple.{PartsWithin};
+ghost use Rattle.angles.specs.Sines.{sineEntries};
+ghost use Rattle.dates.specs.Moment.{Covers};
+ghost use Rattle.tables.specs.Table.{isBody, interval1};
+ghost use Rattle.frames.specs.Frame.{KnownFrame, isFrame, needsEarth, turnedBetween};
+ghost use Rattle.frames.specs.Answer.{inLimits, asCoordinates};
+ghost use Rattle.places.specs.Answer.{earthAt, placeIf, placeAfter, turnIf, turnAnswer, auAnswer};
+ghost use Rattle.places.specs.Earth.{earthIf};
 use dates::Date;
 use dates::Moment;
-use frames::Place;
+use frames::Coordinates;
 use frames::Turned;
 use projector::PlaceInAu;
 use refusals::Refusal;
 
+// The minute of a date and the place on it, or the refusal.
+pub enum PlaceAnswer {
+    Found(i64, Coordinates),
+    Refused(Refusal),
+}
+
 // A place in au, or the refusal.
 pub enum AuAnswer {
     InAu(PlaceInAu),
-    NoPlace(Refusal),
+    Refused(Refusal),
 }
 
-fn parts_of(v: orbits::Vector) -> [i64; 3]
-    ensures { λ r. ⌜ r ≡ listOf v ⌝ }
+// The Earth's place, for frames that go by it; for the others it is not worked out.
+fn earth_for(sines: &[u32; 901], from: i64, to: i64, minute: i64) -> [i64; 3]
+    requires { ⌜ now sines ≡ sineEntries ⌝ }
+    requires { ⌜ Covers interval1 minute ⌝ }
+    ensures { λ r. ⌜ r ≡ earthIf (needsEarth from || needsEarth to) minute ⌝ }
 {
-    [v.x, v.y, v.z]
-}
-
-fn from_parts(v: [i64; 3]) -> Place
-    ensures { λ r. ⌜ r ≡ placeOf v ⌝ }
-{
-    Place {
-        x: v[0],
-        y: v[1],
-        z: v[2],
-    }
-}
-
-// The place in HAE of a body, as three parts.
-fn hae_by(table: &[u32; 901], body: i64, minute: i64) -> [i64; 3]
-    requires { ⌜ now table ≡ sines ⌝ }
-    requires { ⌜ IsBody body ⌝ }
-    requires { ⌜ TwoCenturies minute ⌝ }
-    ensures { λ r. ⌜ r ≡ haeAt body minute ⌝ }
-{
-    parts_of(orbits::place_by(table, body, minute))
-}
-
-// HEE and HEEQ, frames 4 and 5, go by the Earth's place; the others do not, and it is not worked out for them.
-fn earth_by(table: &[u32; 901], frame: i64, minute: i64) -> [i64; 3]
-    requires { ⌜ now table ≡ sines ⌝ }
-    requires { ⌜ TwoCenturies minute ⌝ }
-    ensures { λ r. ⌜ r ≡ earthIf (needsEarth frame) minute ⌝ }
-{
-    if frame < 4 {
+    let needed = frames::needs_earth(from) | frames::needs_earth(to);
+    if !needed {
         return [0, 0, 0];
     }
-    hae_by(table, 3, minute)
+    orbits::place_at(sines, 3, minute)
 }
 
 // A vector turned on an accepted minute between two frames.
-fn turned_by(table: &[u32; 901], from: i64, to: i64, v: [i64; 3], minute: i64) -> Place
-    requires { ⌜ now table ≡ sines ⌝ }
-    requires { ⌜ KnownFrame from ⌝ }
-    requires { ⌜ KnownFrame to ⌝ }
+fn turned_on(sines: &[u32; 901], from: i64, to: i64, v: [i64; 3], minute: i64) -> Coordinates
+    requires { ⌜ now sines ≡ sineEntries ⌝ }
+    requires { ⌜ KnownFrame from × KnownFrame to ⌝ }
     requires { ⌜ PartsWithin 1000000000 v ⌝ }
-    requires { ⌜ TwoCenturies minute ⌝ }
-    ensures { λ r. ⌜ r ≡ placeOf (turnedBetween from to (earthAt minute) v) ⌝ }
+    requires { ⌜ Covers interval1 minute ⌝ }
+    ensures { λ r. ⌜ r ≡ asCoordinates (turnedBetween from to (earthAt minute) v) ⌝ }
 {
-    let earth = earth_by(table, integers::larger(from, to), minute);
-    from_parts(frames::turned_between(from, to, earth, v))
+    let earth = earth_for(sines, from, to, minute);
+    frames::as_coordinates(frames::turned_between(from, to, earth, v))
 }
 
-// The place of a body in a frame on a minute of Table 1's interval: refusal 3, then 4.
-pub fn place_at_by(table: &[u32; 901], minute: i64, body: i64, frame: i64) -> Turned
-    requires { ⌜ now table ≡ sines ⌝ }
-    requires { ⌜ TwoCenturies minute ⌝ }
+// The place of a body in a frame on an accepted minute: refusal 3, then 4.
+fn place_on(sines: &[u32; 901], minute: i64, body: i64, frame: i64) -> PlaceAnswer
+    requires { ⌜ now sines ≡ sineEntries ⌝ }
+    requires { ⌜ Covers interval1 minute ⌝ }
     ensures { λ r. ⌜ r ≡ placeIf (isBody body) (isFrame frame) body frame minute ⌝ }
 {
-    if body < 1 {
-        return Turned::Refused(Refusal::NoSuchBody);
+    if !tables::is_body(body) {
+        return PlaceAnswer::Refused(Refusal::NoSuchBody);
     }
-    if 9 < body {
-        return Turned::Refused(Refusal::NoSuchBody);
+    if !frames::is_frame(frame) {
+        return PlaceAnswer::Refused(Refusal::NoSuchFrame);
     }
-    if frame < 1 {
-        return Turned::Refused(Refusal::NoSuchFrame);
-    }
-    if 5 < frame {
-        return Turned::Refused(Refusal::NoSuchFrame);
-    }
-    let v = hae_by(table, body, minute);
-    Turned::Vector(turned_by(table, 1, frame, v, minute))
+    let v = orbits::place_at(sines, body, minute);
+    PlaceAnswer::Found(minute, turned_on(sines, 1, frame, v, minute))
 }
 
-// The answer for a date, a body and a frame, in counts of 10^-7 au.
-pub fn place_on_date(date: Date, body: i64, frame: i64) -> Turned
-    ensures { λ r. ⌜ r ≡ placeAnswer date body frame ⌝ }
+// The answer for a date and an offset in minutes, a body and a frame: refusals 1, 2, 3, 4 in order. The row, the sheet, the listing
+// and the single place all come this way.
+pub fn place_after(
+    sines: &[u32; 901],
+    date: Date,
+    offset: i64,
+    body: i64,
+    frame: i64,
+) -> PlaceAnswer
+    requires { ⌜ now sines ≡ sineEntries ⌝ }
+    requires { ⌜ Within 10000000000000 offset ⌝ }
+    ensures { λ r. ⌜ r ≡ placeAfter date offset body frame ⌝ }
 {
-    let table = angles::table::SINES;
-    match dates::moment_of(date) {
-        Moment::Accepted(minute) => place_at_by(&table, minute, body, frame),
-        Moment::Refused(refusal) => Turned::Refused(refusal),
+    match tables::moment_after(date, offset) {
+        Moment::Accepted(minute) => place_on(sines, minute, body, frame),
+        Moment::Refused(refusal) => PlaceAnswer::Refused(refusal),
     }
 }
 
-// The same as three doubles in au, for the projector.
-pub fn place_in_au(date: Date, body: i64, frame: i64) -> AuAnswer
+// The place on a date as three doubles in au, for the projector.
+pub fn place_in_au(sines: &[u32; 901], date: Date, body: i64, frame: i64) -> AuAnswer
+    requires { ⌜ now sines ≡ sineEntries ⌝ }
     ensures { λ r. ⌜ r ≡ auAnswer date body frame ⌝ }
 {
-    match place_on_date(date, body, frame) {
-        Turned::Vector(p) => AuAnswer::InAu(projector::in_au(p.x, p.y, p.z)),
-        Turned::Refused(refusal) => AuAnswer::NoPlace(refusal),
+    match place_after(sines, date, 0, body, frame) {
+        PlaceAnswer::Found(_, p) => AuAnswer::InAu(projector::in_au(p.x, p.y, p.z)),
+        PlaceAnswer::Refused(refusal) => AuAnswer::Refused(refusal),
     }
 }
 
-fn is_frame(frame: i64) -> bool
-    ensures { λ r. ⌜ r ≡ isFrame frame ⌝ }
+// A vector turned on an accepted minute: refusal 4, then 5.
+fn turn_on(sines: &[u32; 901], minute: i64, from: i64, to: i64, v: [i64; 3]) -> Turned
+    requires { ⌜ now sines ≡ sineEntries ⌝ }
+    requires { ⌜ Covers interval1 minute ⌝ }
+    ensures { λ r. ⌜ r ≡ turnIf (isFrame from && isFrame to) (inLimits v) from to v minute ⌝ }
 {
-    if frame < 1 {
-        return false;
-    }
-    frame <= 5
-}
-
-// A vector turned on a minute of the interval: refusal 4, then 5.
-fn turn_at_by(table: &[u32; 901], from: i64, to: i64, v: [i64; 3], minute: i64) -> Turned
-    requires { ⌜ now table ≡ sines ⌝ }
-    requires { ⌜ TwoCenturies minute ⌝ }
-    ensures { λ r. ⌜ r ≡ turnIf (isFrame from && isFrame to) (inReach v) from to v minute ⌝ }
-{
-    if !is_frame(from) {
+    if !frames::is_frame(from) {
         return Turned::Refused(Refusal::NoSuchFrame);
     }
-    if !is_frame(to) {
+    if !frames::is_frame(to) {
         return Turned::Refused(Refusal::NoSuchFrame);
     }
-    if !frames::in_reach(v) {
+    if !frames::in_limits(v) {
         return Turned::Refused(Refusal::TooFar);
     }
-    Turned::Vector(turned_by(table, from, to, v, minute))
+    Turned::Vector(turned_on(sines, from, to, v, minute))
 }
 
 // A vector of one frame in another on a date. The date is tested for every pair of frames.
-pub fn turn_on_date(date: Date, from: i64, to: i64, v: [i64; 3]) -> Turned
+pub fn turn_on_date(sines: &[u32; 901], date: Date, from: i64, to: i64, v: [i64; 3]) -> Turned
+    requires { ⌜ now sines ≡ sineEntries ⌝ }
     ensures { λ r. ⌜ r ≡ turnAnswer date from to v ⌝ }
 {
-    let table = angles::table::SINES;
-    match dates::moment_of(date) {
-        Moment::Accepted(minute) => turn_at_by(&table, from, to, v, minute),
+    match tables::moment_after(date, 0) {
+        Moment::Accepted(minute) => turn_on(sines, minute, from, to, v),
         Moment::Refused(refusal) => Turned::Refused(refusal),
     }
 }

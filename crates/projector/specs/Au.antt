@@ -14,11 +14,11 @@ abbrev pub inAu : ℤ → ℤ → ℤ → PlaceInAu
 inAu x y z = record { x = au x; y = au y; z = au z }
 
 -- the double 0.0
-abbrev pub zero : Float
-zero = fin false 0 (pos 0)
+abbrev pub noAu : Float
+noAu = fin false 0 (pos 0)
 
 abbrev pub nowhere : PlaceInAu
-nowhere = record { x = zero; y = zero; z = zero }
+nowhere = record { x = noAu; y = noAu; z = noAu }
 
 -- counts that become doubles exactly: up to 2^53 either way
 pub record CountsExact (x y z : ℤ) : Type 0 where

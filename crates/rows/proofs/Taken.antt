@@ -1,116 +1,90 @@
--- What a row that a reader takes is: a good one with its ranges, or a bare refusal; either way each field holds its number.
+-- The fields of a row that a reader takes hold their numbers: those of a good row by its ranges, those of a refused one as zeros.
 -- By the tests of the definition, taken apart.
-use mathlib.Core.Bool.{Bool, _&&_}
+use mathlib.Core.Bool.{_&&_}
+use mathlib.Core.List.{List, [], _∷_}
 use mathlib.Core.Logic.{⊎-elim}
-use mathlib.Core.Path.{_≡_, refl, subst⁻¹}
-use Prim.Native.Nat.{ℕ, _<_}
+use mathlib.Core.Path.{_≡_, refl, sym, ap, subst⁻¹, _∙_}
+use Prim.Native.Nat.{ℕ, _*_, _%_, _^_, _<_}
+use native.Mathlib.Nat.{zero-mod, mod-eq-of-lt}
 use native.Mathlib.Omega.{arith}
-use lib.Dec.{T, leb→le}
-use lib.IntN.{ℤ, pos, negsuc}
-use mir.Facts.{and-yes, or-yes}
+use lib.Dec.{T}
+use lib.IntN.{ℤ, pos, natAbs}
+use lib.ListN.{length, drop, replicate}
+use mir.Facts.{and-yes, or-yes, fits-ofZ}
 use mir.Syntax.{w64}
-use mir.Val.{SFits}
-use Rattle.integers.proofs.Number.{w-fits}
-use Rattle.dates.specs.Moment.{inInterval, firstMinute, lastMinute}
-use Rattle.dates.proofs.Laws.{Inside, of-test, inside-within}
-use Rattle.rows.specs.declared.Row.{Row}
-use Rattle.rows.specs.Fields.{layout, bareRow, isGood, isRefused, isRow}
+use mir.Val.{SFits, ofZ, toZ}
+use Rattle.integers.specs.Range.{FromTo, isFromTo}
 use Rattle.integers.specs.Sign.{same}
+use Rattle.integers.proofs.Cast.{back, of-nat}
+use Rattle.integers.proofs.Number.{w-fits}
+use Rattle.integers.proofs.Ranges.{of-test, range-within, range-size, range-most}
 use Rattle.integers.proofs.Same.{same-eq}
-use Rattle.rows.proofs.Layouts.{Holds, holds-64, holds-byte, AllHeld, none, more}
+use Rattle.dates.specs.Moment.{covers}
+use Rattle.tables.specs.Table.{Body, isBody, interval1}
+use Rattle.rows.specs.declared.Row.{Row}
+use Rattle.rows.specs.Layout.{areZeros}
+use Rattle.rows.specs.Fields.{widths1, rowNumbers, isFrame1, isGood, isRefused, isRow}
+use Rattle.rows.proofs.Layouts.{Holds, AllHeld, none, more}
 
--- x, y, z are numbers of 64 bits
+-- ---- a number in eight bytes, and one from 0 to 255 in one
+holds-64 : (z : ℤ) → SFits w64 z → Holds 8 z
+holds-64 z f = record { held = ap (toZ w64) (mod-eq-of-lt (fits-ofZ f .fits)) ∙ back z f }
+
+module _ {a b : ℕ} (z : ℤ) (l : b < 256) (h : FromTo (pos a) (pos b) z) where
+  pub byte-is : ofZ w64 z % 256 ≡ natAbs z
+  byte-is = ap (λ (y : ℤ). ofZ w64 y % 256) (sym (range-size a z h)) ∙ mod-eq-of-lt (omega (arith, range-most a z h))
+
+  holds-byte : Holds 1 z
+  holds-byte = record { held = ap (toZ w64) byte-is ∙ of-nat (natAbs z) (omega (arith, range-most a z h)) ∙ range-size a z h }
+
+-- ---- zeros in fields of any width
+zeros-are : (zs : List ℤ) → T (areZeros zs) → zs ≡ replicate (length zs) (pos 0)
+zeros-are [] t = refl
+zeros-are (z ∷ zs) t =
+    let d = and-yes (same z (pos 0)) (areZeros zs) t in
+    λ i. same-eq z (pos 0) (d .0) i ∷ zeros-are zs (d .1) i
+
+zeros-held : (ks : List ℕ) → AllHeld ks (replicate (length ks) (pos 0))
+zeros-held [] = none
+zeros-held (k ∷ ks) = more (record { held = ap (toZ w64) (zero-mod (2 ^ (8 * k))) }) (zeros-held ks)
+
+-- ---- a row that a reader takes. x, y, z are numbers of 64 bits
 pub record Counts (r : Row) : Type 0 where
   pub x : SFits w64 (r .x)
   pub y : SFits w64 (r .y)
   pub z : SFits w64 (r .z)
 
-pub record Good (r : Row) : Type 0 where
-  pub status : r .status ≡ pos 0
-  pub body : Inside (pos 1) (pos 9) (r .body)
-  pub frame : Inside (pos 1) (pos 5) (r .frame)
-  pub minutes : Inside firstMinute lastMinute (r .minutes)
+head-held : (r : Row) → Holds 1 (r .status) → AllHeld (drop 3 widths1) (drop 3 (rowNumbers r)) → AllHeld widths1 (rowNumbers r)
+head-held r s rest = more (record { held = refl }) (more (record { held = refl }) (more s rest))
 
-pub record Bare (r : Row) : Type 0 where
-  pub status : Inside (pos 1) (pos 4) (r .status)
-  pub rest : r ≡ bareRow (r .status)
-
-pub is-good : (r : Row) → T (isGood r) → Good r
+good-held : (r : Row) → Counts r → T (isGood r) → AllHeld widths1 (rowNumbers r)
 unfolding isGood
-is-good r t =
+good-held r counts t =
     let status = same (r .status) (pos 0) in
-    let body = inInterval (pos 1) (pos 9) (r .body) in
-    let frame = inInterval (pos 1) (pos 5) (r .frame) in
-    let minutes = inInterval firstMinute lastMinute (r .minutes) in
-    let d = and-yes (status && body && frame) minutes t in
+    let body = isBody (r .body) in
+    let frame = isFrame1 (r .frame) in
+    let d = and-yes (status && body && frame) (covers interval1 (r .minutes)) t in
     let c = and-yes (status && body) frame (d .0) in
     let b = and-yes status body (c .0) in
-    record {
-      status = same-eq (r .status) (pos 0) (b .0);
-      body = of-test (pos 1) (pos 9) (r .body) (b .1);
-      frame = of-test (pos 1) (pos 5) (r .frame) (c .1);
-      minutes = of-test firstMinute lastMinute (r .minutes) (d .1);
-    }
+    let known : Body (r .body) = of-test _ _ _ (b .1) in
+    let minutes = range-within (interval1 .first) (interval1 .last) (r .minutes) (natAbs (interval1 .first)) (of-test _ _ _ (d .1)) (omega arith) (omega arith) in
+    head-held r (subst⁻¹ (Holds 1) (same-eq (r .status) (pos 0) (b .0)) (record { held = refl }))
+    (more (holds-byte (r .body) (omega arith) known)
+    (more (holds-byte (r .frame) (omega arith) (of-test (pos 1) (pos 5) (r .frame) (c .1)))
+    (more (holds-64 (r .minutes) (w-fits minutes tt))
+    (more (holds-64 (r .x) (counts .x))
+    (more (holds-64 (r .y) (counts .y))
+    (more (holds-64 (r .z) (counts .z))
+    none))))))
 
-pub is-bare : (r : Row) → T (isRefused r) → Bare r
+refused-held : (r : Row) → T (isRefused r) → AllHeld widths1 (rowNumbers r)
 unfolding isRefused
-is-bare r t =
-    let s = inInterval (pos 1) (pos 4) (r .status) in
-    let zero : ℤ → Bool = λ n. same n (pos 0) in
-    let g = and-yes (s && zero (r .body) && zero (r .frame) && zero (r .minutes) && zero (r .x) && zero (r .y)) (zero (r .z)) t in
-    let f = and-yes (s && zero (r .body) && zero (r .frame) && zero (r .minutes) && zero (r .x)) (zero (r .y)) (g .0) in
-    let e = and-yes (s && zero (r .body) && zero (r .frame) && zero (r .minutes)) (zero (r .x)) (f .0) in
-    let d = and-yes (s && zero (r .body) && zero (r .frame)) (zero (r .minutes)) (e .0) in
-    let c = and-yes (s && zero (r .body)) (zero (r .frame)) (d .0) in
-    let b = and-yes s (zero (r .body)) (c .0) in
-    record {
-      status = of-test (pos 1) (pos 4) (r .status) (b .0);
-      rest =
-          λ i. record {
-            status = r .status;
-            body = same-eq (r .body) (pos 0) (b .1) i;
-            frame = same-eq (r .frame) (pos 0) (c .1) i;
-            minutes = same-eq (r .minutes) (pos 0) (d .1) i;
-            x = same-eq (r .x) (pos 0) (e .1) i;
-            y = same-eq (r .y) (pos 0) (f .1) i;
-            z = same-eq (r .z) (pos 0) (g .1) i;
-          };
-    }
+refused-held r t =
+    let rest = drop 3 (rowNumbers r) in
+    let d = and-yes (isFromTo (pos 1) (pos 4) (r .status)) (areZeros rest) t in
+    head-held r (holds-byte (r .status) (omega arith) (of-test (pos 1) (pos 4) (r .status) (d .0)))
+    (subst⁻¹ (AllHeld (drop 3 widths1)) (zeros-are rest (d .1)) (zeros-held (drop 3 widths1)))
 
--- a number of one byte
-pub holds-inside : (a b : ℕ) (z : ℤ) → b < 256 → Inside (pos a) (pos b) z → Holds 1 z
-holds-inside a b (pos n) h i = holds-byte n (omega (arith, leb→le n b (i .to .le)))
-holds-inside a b (negsuc n) h i = absurd (i .from .le)
-
--- the fields of either hold their numbers
-layout-held : (r : Row) → Holds 1 (r .status) → Holds 1 (r .body) → Holds 1 (r .frame) → SFits w64 (r .minutes) → Counts r → AllHeld (layout r)
-layout-held r s b f m c =
-    more (record { held = refl })
-    (more (record { held = refl })
-    (more s
-    (more b
-    (more f
-    (more (holds-64 (r .minutes) m)
-    (more (holds-64 (r .x) (c .x))
-    (more (holds-64 (r .y) (c .y))
-    (more (holds-64 (r .z) (c .z))
-    none))))))))
-
-good-held : (r : Row) → Counts r → Good r → AllHeld (layout r)
-good-held r c g =
-    layout-held r (subst⁻¹ (Holds 1) (g .status) (holds-byte 0 (omega arith)))
-    (holds-inside 1 9 (r .body) (omega arith) (g .body))
-    (holds-inside 1 5 (r .frame) (omega arith) (g .frame))
-    (w-fits (inside-within (r .minutes) (g .minutes)) tt)
-    c
-
-bare-held : (r : Row) → Bare r → AllHeld (layout r)
-bare-held r b =
-    let byte : Holds 1 (pos 0) = holds-byte 0 (omega arith) in
-    let zero : SFits w64 (pos 0) = record { sfits = omega arith } in
-    subst⁻¹ (λ (t : Row). AllHeld (layout t)) (b .rest)
-    (layout-held (bareRow (r .status)) (holds-inside 1 4 (r .status) (omega arith) (b .status)) byte byte zero (record { x = zero; y = zero; z = zero }))
-
-pub row-held : (r : Row) → Counts r → T (isRow r) → AllHeld (layout r)
+pub row-held : (r : Row) → Counts r → T (isRow r) → AllHeld widths1 (rowNumbers r)
 unfolding isRow
-row-held r c t = ⊎-elim (λ g. good-held r c (is-good r g)) (λ b. bare-held r (is-bare r b)) (or-yes (isGood r) (isRefused r) t)
+row-held r counts t = ⊎-elim (λ g. good-held r counts g) (λ b. refused-held r b) (or-yes (isGood r) (isRefused r) t)

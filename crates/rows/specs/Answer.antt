@@ -7,20 +7,22 @@ use lib.IntN.{ℤ, pos}
 use lib.ListN.{length, drop}
 use Rattle.refusals.specs.declared.Refusal.the-variants.{ShortBuffer, NoRow}
 use Rattle.refusals.specs.Number.{numberOf}
-use Rattle.rows.specs.declared.Row.{Row}
 use Rattle.rows.specs.declared.ReadAnswer.{ReadAnswer}
 use Rattle.rows.specs.declared.ReadAnswer.the-variants.{Found, Refused}
+use Rattle.rows.specs.declared.Row.{Row}
 use Rattle.rows.specs.declared.Written.{Written}
 use Rattle.rows.specs.declared.Written.the-variants.{Done, Refused as NotWritten}
-use Rattle.rows.specs.Fields.{bareRow, rowBytes, fieldsIn, rowOf, isRow, areRow}
+use Rattle.rows.specs.Layout.{numbersIn}
+use Rattle.rows.specs.Fields.{rowSize, widths1, bareRow, rowBytes, rowFrom, isRow, areRow}
 
-abbrev pub foundIf : Bool → Row → ReadAnswer
+-- by whether the bytes are a row: the row, or refusal 9
+abbrev pub foundIf : (is : Bool) → Row → ReadAnswer
 foundIf true row = Found row
 foundIf false row = Refused NoRow
 
 -- "a reader takes the first 38 bytes"; refusal 9: "bytes are no row (a slice under 38 too)"
 unfoldable pub readOf : List ℕ → ReadAnswer
-readOf bytes = foundIf (leb 38 (length bytes) && areRow (fieldsIn bytes)) (rowOf (fieldsIn bytes))
+readOf bytes = foundIf (leb rowSize (length bytes) && areRow (numbersIn widths1 bytes)) (rowFrom (numbersIn widths1 bytes))
 
 -- document 01's number of an answer, and the row read, zeros where there is none
 abbrev pub readStatus : ReadAnswer → ℤ
@@ -33,14 +35,14 @@ readRow (Refused refusal) = bareRow (pos 0)
 
 -- by whether there is room, and whether the fields are a row's. Refusal 8: "buffer untouched"; 9: "fields to be written are
 -- none", "a buffer untouched"; else "bytes after the row stay"
-abbrev pub writtenIf : Bool → Bool → Row → List ℕ → Written × List ℕ
+abbrev pub writtenIf : (room isRow : Bool) → Row → List ℕ → Written × List ℕ
 writtenIf false isRow row before = (NotWritten ShortBuffer, before)
 writtenIf true false row before = (NotWritten NoRow, before)
-writtenIf true true row before = (Done, rowBytes row ++ drop 38 before)
+writtenIf true true row before = (Done, rowBytes row ++ drop rowSize before)
 
 -- the answer to a writer, and the bytes that it leaves
 unfoldable pub written : Row → List ℕ → Written × List ℕ
-written row before = writtenIf (leb 38 (length before)) (isRow row) row before
+written row before = writtenIf (leb rowSize (length before)) (isRow row) row before
 
 -- document 01's number of a writer's answer
 abbrev pub writtenStatus : Written → ℤ

@@ -5,14 +5,19 @@ use Prim.Native.Nat.{ℕ}
 use lib.IntN.{ℤ, pos, negsuc}
 use lib.ListN.{take, replicate}
 use Rattle.refusals.specs.declared.Refusal.the-variants.{ShortBuffer, NoRow}
-use Rattle.rows.specs.declared.Row.{Row}
 use Rattle.rows.specs.declared.ReadAnswer.{ReadAnswer}
 use Rattle.rows.specs.declared.ReadAnswer.the-variants.{Found, Refused}
+use Rattle.rows.specs.declared.Row.{Row}
 use Rattle.rows.specs.declared.Written.the-variants.{Done, Refused as NotWritten}
-use Rattle.rows.specs.Bytes.{bigEndian, bigNumber}
-use Rattle.rows.specs.Layout.{bytesOf, fieldsFrom}
+use Rattle.rows.specs.Bytes.{bigEndian, bigFrom, fieldBytes}
+use Rattle.rows.specs.Layout.{bytesOf, numbersIn}
 use Rattle.rows.specs.Fields.{goodRow, bareRow, rowBytes, refusedBytes, isGood, isRefused, isRow, areRow, statusAt}
 use Rattle.rows.specs.Answer.{readOf, readStatus, readRow, written}
+
+-- a layout of three fields: -1 has all bits set at any width, and only eight bytes say that it is below zero
+pub three-fields : (bytesOf (1 ∷ 2 ∷ 8 ∷ []) (pos 7 ∷ negsuc 0 ∷ negsuc 0 ∷ []) ≡ 7 ∷ replicate 10 255) × (numbersIn (1 ∷ 2 ∷ 8 ∷ []) (7 ∷ replicate 10 255) ≡ pos 7 ∷ pos 65535 ∷ negsuc 0 ∷ [])
+unfolding bytesOf numbersIn bigEndian bigFrom
+three-fields = (refl, refl)
 
 -- Mars in HAE a minute before JD 2451545.0, with x -1, y the least number of 64 bits and z 1 au
 abbrev pub mars : Row
@@ -31,7 +36,7 @@ refusal-2-in-bytes = refl
 
 -- bytes of these first six, and zeros for the eight-byte fields but for the minute
 abbrev pub withMinute : List ℕ → ℤ → List ℕ
-withMinute first minute = first ++ bytesOf ((8, minute) ∷ []) ++ replicate 24 0
+withMinute first minute = first ++ fieldBytes 8 minute ++ replicate 24 0
 
 abbrev pub readings : List (List ℕ × ReadAnswer)
 readings =
@@ -64,7 +69,7 @@ readings =
     ∷ []
 
 pub readings-are : map (λ (e : List ℕ × ReadAnswer). readOf (e .0)) readings ≡ map (λ (e : List ℕ × ReadAnswer). e .1) readings
-unfolding readOf areRow isRow isGood isRefused fieldsFrom bigNumber bytesOf bigEndian
+unfolding readOf areRow isRow isGood isRefused numbersIn bigFrom bigEndian
 readings-are = refl
 
 -- a slice that is no row has document 01's number 9, and zeros

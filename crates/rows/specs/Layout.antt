@@ -1,26 +1,36 @@
--- Document 01, "Rows and sheets": a row is laid out as a list of fields, each with its width in bytes and its number.
-use mathlib.Core.List.{List, [], _∷_, _++_, map}
+-- Document 01, "Rows and sheets": a row is fields one after the other. A layout is the list of their widths in bytes; a row's
+-- numbers are a list in the same order.
+use mathlib.Core.Bool.{Bool, true, _&&_}
+use mathlib.Core.List.{List, [], _∷_, _++_}
 use Prim.Native.Nat.{ℕ, _+_}
+use lib.Dec.{leb}
 use lib.IntN.{ℤ, pos}
-use lib.ListN.{getD}
-use Rattle.rows.specs.Bytes.{fieldBytes, fieldAt}
+use lib.ListN.{take, drop}
+use Rattle.integers.specs.Sign.{same}
+use Rattle.rows.specs.Bytes.{fieldBytes, fieldNumber}
 
-abbrev pub Field : Type 0
-Field = ℕ × ℤ
+-- how many bytes fields of these widths take together
+abbrev pub total : List ℕ → ℕ
+total [] = 0
+total (k ∷ ks) = k + total ks
 
-abbrev pub widths : List Field → List ℕ
-widths fields = map (λ (f : Field). f .0) fields
+-- no field is wider than the eight bytes of a number
+abbrev pub narrow : List ℕ → Bool
+narrow [] = true
+narrow (k ∷ ks) = leb k 8 && narrow ks
 
--- the bytes of fields, one after the other
-unfoldable pub bytesOf : List Field → List ℕ
-bytesOf [] = []
-bytesOf (f ∷ fields) = fieldBytes (f .0) (f .1) ++ bytesOf fields
+-- the bytes of numbers in fields of these widths
+unfoldable pub bytesOf : (widths : List ℕ) → (numbers : List ℤ) → List ℕ
+bytesOf [] numbers = []
+bytesOf (k ∷ ks) [] = []
+bytesOf (k ∷ ks) (z ∷ zs) = fieldBytes k z ++ bytesOf ks zs
 
--- the fields of these widths in bytes, the first from place `at` on
-unfoldable pub fieldsFrom : ℕ → List ℕ → List ℕ → List Field
-fieldsFrom at [] bytes = []
-fieldsFrom at (k ∷ ks) bytes = (k, fieldAt at k bytes) ∷ fieldsFrom (at + k) ks bytes
+-- the numbers in bytes, by fields of these widths
+unfoldable pub numbersIn : (widths : List ℕ) → (bytes : List ℕ) → List ℤ
+numbersIn [] bytes = []
+numbersIn (k ∷ ks) bytes = fieldNumber (take k bytes) ∷ numbersIn ks (drop k bytes)
 
--- the number of field i, counted from 0
-abbrev pub numberIn : List Field → ℕ → ℤ
-numberIn fields i = getD fields i (0, pos 0) .1
+-- nothing but zeros
+abbrev pub areZeros : List ℤ → Bool
+areZeros [] = true
+areZeros (z ∷ zs) = same z (pos 0) && areZeros zs

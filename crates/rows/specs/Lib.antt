@@ -1,4 +1,4 @@
--- What the contracts of `rows` cite: numbers in bytes, a row's fields and bytes, the answers to a reader and a writer.
+-- What the contracts of `rows` cite: numbers in bytes, layouts, a row's fields and bytes, the answers to a reader and a writer.
 pub mod Bytes
 pub mod Layout
 pub mod Fields

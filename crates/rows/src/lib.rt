@@ -1,29 +1,27 @@
-// The 38 bytes of a row: written from its fields, and read. Each field goes through one writer and one reader of numbers,
-// which are told its place and its width; one function says which fields are a row's.
+// The bytes of a row: written from its fields, and read. A layout is the list of its fields' widths, and one writer and one reader go
+// by it, whatever it is. One function says which fields are a row's.
 ghost use mathlib.Core.Path.{_≡_};
 ghost use mathlib.Core.List.{_++_};
-ghost use Prim.Native.Nat.{_+_, _%_, _≤_, _<_};
+ghost use Prim.Native.Nat.{_%_, _≤_, _<_};
+ghost use lib.Dec.{T};
 ghost use lib.ListN.{length, drop};
-ghost use mir.Syntax.{w64};
-ghost use mir.Val.{ofZ, toZ};
-ghost use Rattle.integers.specs.Sign.{same};
-ghost use Rattle.integers.specs.Buffer.{replaced};
-ghost use Rattle.dates.specs.Moment.{inInterval};
 ghost use Rattle.refusals.specs.Number.{numberOf};
-ghost use Rattle.rows.specs.Bytes.{bigEndian, bigNumber, fieldBytes, fieldAt};
-ghost use Rattle.rows.specs.Fields.{goodRow, rowBytes, refusedBytes, fieldsIn, rowOf, isGood, isRefused, isRow};
+ghost use Rattle.rows.specs.Bytes.{bigEndian, bigNumber};
+ghost use Rattle.rows.specs.Layout.{total, narrow, bytesOf, numbersIn, areZeros};
+ghost use Rattle.rows.specs.Fields.{rowSize, widths1, rowNumbers, rowFrom, goodRow, rowBytes, refusedBytes, isGood, isRefused, isRow, areRow};
 ghost use Rattle.rows.specs.Answer.{readOf, written};
-use dates::FIRST_MINUTE;
-use dates::LAST_MINUTE;
 use refusals::Refusal;
 
 // How many bytes a row has.
 pub const ROW_BYTES: usize = 38;
 
-// The bytes that follow the length.
+// What a row's length says: the bytes that follow it.
 const LENGTH: i64 = 36;
 
 const VERSION: i64 = 1;
+
+// The layout of version 1, in bytes: length, version, status, body, frame, minutes, x, y, z.
+const WIDTHS: [usize; 9] = [2, 1, 1, 1, 1, 8, 8, 8, 8];
 
 // The fields of a row. A refused row has its number for the status, and zeros for all others.
 pub struct Row {
@@ -50,34 +48,14 @@ pub enum Written {
     Refused(Refusal),
 }
 
-// The 64 bits of z in two's complement. Neither cast loses anything.
-fn bits_of(z: i64) -> u64
-    ensures { λ r. ⌜ r ≡ ofZ w64 z ⌝ }
-{
-    if 0 <= z {
-        z as u64
-    } else {
-        0xffff_ffff_ffff_ffff - ((-1 - z) as u64)
-    }
-}
-
-// The signed number that has these 64 bits.
-fn of_bits(n: u64) -> i64
-    ensures { λ r. ⌜ r ≡ toZ w64 n ⌝ }
-{
-    if n < 0x8000_0000_0000_0000 {
-        n as i64
-    } else {
-        -1 - ((0xffff_ffff_ffff_ffff - n) as i64)
-    }
-}
-
+// The lowest byte of n.
 fn low_byte(n: u64) -> u8
     ensures { λ r. ⌜ r ≡ n % 256 ⌝ }
 {
     (n % 256) as u8
 }
 
+// A byte among numbers of 64 bits. A function, since what it returns is then known to be below 256.
 fn wide(byte: u8) -> u64
     ensures { λ r. ⌜ (r ≡ byte) × (r < 256) ⌝ }
 {
@@ -111,72 +89,120 @@ fn number_in(bytes: &[u8]) -> u64
     n
 }
 
-// A number into the field of this width from place `at` on.
-fn put_field(at: usize, width: usize, z: i64, bytes: &mut [u8])
-    requires { ⌜ at + width ≤ length (now bytes) ⌝ }
-    ensures { λ _. ⌜ now (bytes .exit) ≡ replaced at (fieldBytes width z) (now (bytes .entry)) ⌝ }
+// The numbers into fields of these widths, one after the other from the first byte on. Bytes after them stay.
+fn put_numbers(widths: &[usize], numbers: &[i64], bytes: &mut [u8])
+    requires { ⌜ length (now widths) ≡ length (now numbers) ⌝ }
+    requires { ⌜ total (now widths) ≤ length (now bytes) ⌝ }
+    ensures { λ _. ⌜ now (bytes .exit) ≡ bytesOf (now (widths .entry)) (now (numbers .entry)) ++ drop (total (now (widths .entry))) (now (bytes .entry)) ⌝ }
 {
-    put_number(bits_of(z), &mut bytes[at..at + width]);
+    let mut at = 0;
+    let mut i = 0;
+    while i < widths.len() {
+        let end = at + widths[i];
+        put_number(integers::bits_of(numbers[i]), &mut bytes[at..end]);
+        at = end;
+        i += 1;
+    }
 }
 
-// The number in the field of this width from place `at` on.
-fn field_at(at: usize, width: usize, bytes: &[u8]) -> i64
-    requires { ⌜ width ≤ 8 ⌝ }
-    requires { ⌜ at + width ≤ length (now bytes) ⌝ }
-    ensures { λ r. ⌜ r ≡ fieldAt at width (now (bytes .entry)) ⌝ }
+// The numbers that stand in fields of these widths, one after the other from the first byte on.
+fn numbers_in(widths: &[usize], bytes: &[u8], numbers: &mut [i64])
+    requires { ⌜ length (now widths) ≡ length (now numbers) ⌝ }
+    requires { ⌜ total (now widths) ≤ length (now bytes) ⌝ }
+    requires { ⌜ T (narrow (now widths)) ⌝ }
+    ensures { λ _. ⌜ now (numbers .exit) ≡ numbersIn (now (widths .entry)) (now (bytes .entry)) ⌝ }
 {
-    of_bits(number_in(&bytes[at..at + width]))
+    let mut at = 0;
+    let mut i = 0;
+    while i < widths.len() {
+        let end = at + widths[i];
+        numbers[i] = integers::of_bits(number_in(&bytes[at..end]));
+        at = end;
+        i += 1;
+    }
+}
+
+// Whether all of these numbers are 0.
+fn are_zeros(numbers: &[i64]) -> bool
+    ensures { λ r. ⌜ r ≡ areZeros (now (numbers .entry)) ⌝ }
+{
+    let mut i = 0;
+    while i < numbers.len() {
+        if !integers::are_same(numbers[i], 0) {
+            return false;
+        }
+        i += 1;
+    }
+    true
+}
+
+// A row's numbers in the order of the layout.
+fn row_numbers(row: Row) -> [i64; 9]
+    ensures { λ r. ⌜ r ≡ rowNumbers row ⌝ }
+{
+    [
+        LENGTH,
+        VERSION,
+        row.status,
+        row.body,
+        row.frame,
+        row.minutes,
+        row.x,
+        row.y,
+        row.z,
+    ]
+}
+
+// The row of numbers in that order.
+fn row_from(numbers: [i64; 9]) -> Row
+    ensures { λ r. ⌜ r ≡ rowFrom numbers ⌝ }
+{
+    Row {
+        status: numbers[2],
+        body: numbers[3],
+        frame: numbers[4],
+        minutes: numbers[5],
+        x: numbers[6],
+        y: numbers[7],
+        z: numbers[8],
+    }
 }
 
 // The row's bytes, whatever its fields are.
 fn put_row(row: Row, bytes: &mut [u8])
-    requires { ⌜ 38 ≤ length (now bytes) ⌝ }
-    ensures { λ _. ⌜ now (bytes .exit) ≡ rowBytes row ++ drop 38 (now (bytes .entry)) ⌝ }
+    requires { ⌜ rowSize ≤ length (now bytes) ⌝ }
+    ensures { λ _. ⌜ now (bytes .exit) ≡ rowBytes row ++ drop rowSize (now (bytes .entry)) ⌝ }
 {
-    put_field(0, 2, LENGTH, bytes);
-    put_field(2, 1, VERSION, bytes);
-    put_field(3, 1, row.status, bytes);
-    put_field(4, 1, row.body, bytes);
-    put_field(5, 1, row.frame, bytes);
-    put_field(6, 8, row.minutes, bytes);
-    put_field(14, 8, row.x, bytes);
-    put_field(22, 8, row.y, bytes);
-    put_field(30, 8, row.z, bytes);
+    put_numbers(&WIDTHS, &row_numbers(row), bytes);
 }
 
-fn same(a: i64, b: i64) -> bool
-    ensures { λ r. ⌜ r ≡ same a b ⌝ }
+// The numbers in the bytes of a row, whatever they are.
+fn numbers_in_row(bytes: &[u8]) -> [i64; 9]
+    requires { ⌜ rowSize ≤ length (now bytes) ⌝ }
+    ensures { λ r. ⌜ r ≡ numbersIn widths1 (now (bytes .entry)) ⌝ }
 {
-    a == b
-}
-
-fn lies(first: i64, last: i64, z: i64) -> bool
-    ensures { λ r. ⌜ r ≡ inInterval first last z ⌝ }
-{
-    (first <= z) & (z <= last)
+    let mut numbers = [0; 9];
+    numbers_in(&WIDTHS, bytes, &mut numbers);
+    numbers
 }
 
 // Status 0 with a known body and frame and a date in the interval, any x, y, z.
 fn is_good(row: Row) -> bool
     ensures { λ r. ⌜ r ≡ isGood row ⌝ }
 {
-    same(row.status, 0)
-        & lies(1, 9, row.body)
-        & lies(1, 5, row.frame)
-        & lies(FIRST_MINUTE, LAST_MINUTE, row.minutes)
+    let interval = tables::interval();
+    integers::are_same(row.status, 0)
+        & tables::is_body(row.body)
+        & integers::is_from_to(1, 5, row.frame)
+        & integers::is_from_to(interval.first, interval.last, row.minutes)
 }
 
 // Status 1 to 4 with nothing but zeros after it.
 fn is_refused(row: Row) -> bool
     ensures { λ r. ⌜ r ≡ isRefused row ⌝ }
 {
-    lies(1, 4, row.status)
-        & same(row.body, 0)
-        & same(row.frame, 0)
-        & same(row.minutes, 0)
-        & same(row.x, 0)
-        & same(row.y, 0)
-        & same(row.z, 0)
+    let numbers = row_numbers(row);
+    integers::is_from_to(1, 4, row.status) & are_zeros(&numbers[3..])
 }
 
 // Whether a reader takes these fields.
@@ -186,46 +212,37 @@ fn is_row(row: Row) -> bool
     is_good(row) | is_refused(row)
 }
 
-// The fields that stand in the first 38 bytes, whatever they are.
-fn row_in(bytes: &[u8]) -> Row
-    requires { ⌜ 38 ≤ length (now bytes) ⌝ }
-    ensures { λ r. ⌜ r ≡ rowOf (fieldsIn (now (bytes .entry))) ⌝ }
+// Whether a reader takes these numbers.
+fn are_row(numbers: [i64; 9]) -> bool
+    ensures { λ r. ⌜ r ≡ areRow numbers ⌝ }
 {
-    Row {
-        status: field_at(3, 1, bytes),
-        body: field_at(4, 1, bytes),
-        frame: field_at(5, 1, bytes),
-        minutes: field_at(6, 8, bytes),
-        x: field_at(14, 8, bytes),
-        y: field_at(22, 8, bytes),
-        z: field_at(30, 8, bytes),
-    }
+    integers::are_same(numbers[0], LENGTH)
+        & integers::are_same(numbers[1], VERSION)
+        & is_row(row_from(numbers))
 }
 
-// The row in the first 38 bytes, or refusal 9.
+// The row in the first ROW_BYTES bytes, or refusal 9.
 pub fn read_row(bytes: &[u8]) -> ReadAnswer
     ensures { λ r. ⌜ r ≡ readOf (now (bytes .entry)) ⌝ }
 {
     if bytes.len() < ROW_BYTES {
         return ReadAnswer::Refused(Refusal::NoRow);
     }
-    let row = row_in(bytes);
-    if same(field_at(0, 2, bytes), LENGTH) & same(field_at(2, 1, bytes), VERSION) & is_row(row) {
-        return ReadAnswer::Found(row);
+    let numbers = numbers_in_row(bytes);
+    if !are_row(numbers) {
+        return ReadAnswer::Refused(Refusal::NoRow);
     }
-    ReadAnswer::Refused(Refusal::NoRow)
+    ReadAnswer::Found(row_from(numbers))
 }
 
-// The row of these fields into the first 38 bytes. Refusal 8 comes before refusal 9, and either leaves all bytes as they were.
+// The row of these fields into the first ROW_BYTES bytes. Refusal 8 comes before 9, and either leaves all bytes as they were.
 pub fn write_row(row: Row, bytes: &mut [u8]) -> Written
     ensures { λ r. ⌜ (r, now (bytes .exit)) ≡ written row (now (bytes .entry)) ⌝ }
 {
-    let room = ROW_BYTES <= bytes.len();
-    let taken = is_row(row);
-    if !room {
+    if bytes.len() < ROW_BYTES {
         return Written::Refused(Refusal::ShortBuffer);
     }
-    if !taken {
+    if !is_row(row) {
         return Written::Refused(Refusal::NoRow);
     }
     put_row(row, bytes);
@@ -234,8 +251,8 @@ pub fn write_row(row: Row, bytes: &mut [u8]) -> Written
 
 // A row of status 0 into bytes that have room for it. Its fields are not tested again.
 pub fn put_good(body: i64, frame: i64, minutes: i64, x: i64, y: i64, z: i64, bytes: &mut [u8])
-    requires { ⌜ 38 ≤ length (now bytes) ⌝ }
-    ensures { λ _. ⌜ now (bytes .exit) ≡ rowBytes (goodRow body frame minutes x y z) ++ drop 38 (now (bytes .entry)) ⌝ }
+    requires { ⌜ rowSize ≤ length (now bytes) ⌝ }
+    ensures { λ _. ⌜ now (bytes .exit) ≡ rowBytes (goodRow body frame minutes x y z) ++ drop rowSize (now (bytes .entry)) ⌝ }
 {
     let row = Row {
         status: 0,
@@ -251,8 +268,8 @@ pub fn put_good(body: i64, frame: i64, minutes: i64, x: i64, y: i64, z: i64, byt
 
 // A refused row into bytes that have room for it: no byte of what stood there is left.
 pub fn put_refused(refusal: Refusal, bytes: &mut [u8])
-    requires { ⌜ 38 ≤ length (now bytes) ⌝ }
-    ensures { λ _. ⌜ now (bytes .exit) ≡ refusedBytes (numberOf refusal) ++ drop 38 (now (bytes .entry)) ⌝ }
+    requires { ⌜ rowSize ≤ length (now bytes) ⌝ }
+    ensures { λ _. ⌜ now (bytes .exit) ≡ refusedBytes (numberOf refusal) ++ drop rowSize (now (bytes .entry)) ⌝ }
 {
     let row = Row {
         status: refusals::number(refusal),

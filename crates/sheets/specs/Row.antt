@@ -4,57 +4,36 @@ use mathlib.Core.Bool.{Bool, true, false}
 use mathlib.Core.List.{List, _++_}
 use Prim.Native.Nat.{ℕ}
 use lib.Dec.{leb}
-use lib.IntN.{ℤ, pos}
+use lib.IntN.{ℤ}
 use lib.ListN.{length, drop}
-use Rattle.refusals.specs.declared.Refusal.{Refusal}
-use Rattle.refusals.specs.declared.Refusal.the-variants.{ShortBuffer, NoRow}
+use Rattle.refusals.specs.declared.Refusal.the-variants.{ShortBuffer}
 use Rattle.refusals.specs.Number.{numberOf}
 use Rattle.dates.specs.declared.Date.{Date}
-use Rattle.dates.specs.declared.Moment.{Moment}
-use Rattle.dates.specs.declared.Moment.the-variants.{Accepted, Refused as RefusedDate}
-use Rattle.dates.specs.Moment.{momentOf}
-use Rattle.frames.specs.declared.Turned.{Turned}
-use Rattle.frames.specs.declared.Turned.the-variants.{Vector, Refused as NotTurned}
-use Rattle.places.specs.Answer.{placeOn}
-use Rattle.rows.specs.Fields.{goodRow, rowBytes, refusedBytes}
-use Rattle.sheets.specs.declared.Said.{Said}
-use Rattle.sheets.specs.declared.Said.the-variants.{Good, Refused}
+use Rattle.places.specs.declared.PlaceAnswer.{PlaceAnswer}
+use Rattle.places.specs.declared.PlaceAnswer.the-variants.{Found, Refused}
+use Rattle.places.specs.Answer.{placeAnswer, placeStatus}
+use Rattle.rows.specs.declared.Row.{Row}
+use Rattle.rows.specs.Fields.{rowSize, goodRow, bareRow, rowBytes, refusedBytes}
 
--- what a row says of a moment: its minute and the place, or the refusal
-abbrev pub saidFrom : ℤ → Turned → Said
-saidFrom m (Vector place) = Good m place
-saidFrom m (NotTurned r) = Refused r
+-- the fields of the row of an answer: the place with its minute, or nothing but the refusal's number
+abbrev pub rowFor : ℤ → ℤ → PlaceAnswer → Row
+rowFor body frame (Found m p) = goodRow body frame m (p .x) (p .y) (p .z)
+rowFor body frame (Refused r) = bareRow (numberOf r)
 
-abbrev pub saidOn : Moment → ℤ → ℤ → Said
-saidOn (Accepted m) body frame = saidFrom m (placeOn (Accepted m) body frame)
-saidOn (RefusedDate r) body frame = Refused r
-
--- the bytes of such a row, and its status
-abbrev pub bytesFor : ℤ → ℤ → Said → List ℕ
-bytesFor body frame (Good m place) = rowBytes (goodRow body frame m (place .x) (place .y) (place .z))
+-- its bytes
+abbrev pub bytesFor : ℤ → ℤ → PlaceAnswer → List ℕ
+bytesFor body frame (Found m p) = rowBytes (goodRow body frame m (p .x) (p .y) (p .z))
 bytesFor body frame (Refused r) = refusedBytes (numberOf r)
 
-abbrev pub statusFor : Said → ℤ
-statusFor (Good m place) = pos 0
-statusFor (Refused r) = numberOf r
+-- its status, and the bytes that it leaves: "Bytes after the row stay"
+abbrev pub answerWritten : ℤ → ℤ → PlaceAnswer → List ℕ → ℤ × List ℕ
+answerWritten body frame answer before = (placeStatus answer, bytesFor body frame answer ++ drop rowSize before)
 
--- the refusal in what a row says; a good one says none, and `NoRow` stands in for it
-abbrev pub refusalIn : Said → Refusal
-refusalIn (Good m place) = NoRow
-refusalIn (Refused r) = r
-
--- the row of a date, and its status
-abbrev pub rowOf : Date → ℤ → ℤ → List ℕ
-rowOf date body frame = bytesFor body frame (saidOn (momentOf date) body frame)
-
-abbrev pub statusOf : Date → ℤ → ℤ → ℤ
-statusOf date body frame = statusFor (saidOn (momentOf date) body frame)
-
--- by whether there is room: "Bytes after the row stay"; refusal 8, "buffer untouched"
-abbrev pub rowIf : Bool → Date → ℤ → ℤ → List ℕ → ℤ × List ℕ
-rowIf false date body frame before = (numberOf ShortBuffer, before)
-rowIf true date body frame before = (statusOf date body frame, rowOf date body frame ++ drop 38 before)
+-- by whether there is room: refusal 8, "buffer untouched"
+abbrev pub rowIf : (room : Bool) → ℤ → ℤ → PlaceAnswer → List ℕ → ℤ × List ℕ
+rowIf false body frame answer before = (numberOf ShortBuffer, before)
+rowIf true body frame answer before = answerWritten body frame answer before
 
 -- the status, and the bytes that are left
 unfoldable pub rowWritten : Date → ℤ → ℤ → List ℕ → ℤ × List ℕ
-rowWritten date body frame before = rowIf (leb 38 (length before)) date body frame before
+rowWritten date body frame before = rowIf (leb rowSize (length before)) body frame (placeAnswer date body frame) before

@@ -4,24 +4,16 @@ ghost use mathlib.Core.List.{_++_};
 ghost use Prim.Native.Nat.{_*_, _≤_};
 ghost use lib.ListN.{length, drop};
 ghost use Rattle.integers.specs.Range.{Within};
-ghost use Rattle.angles.specs.Sines.{sines};
-ghost use Rattle.orbits.specs.Range.{TwoCenturies};
-ghost use Rattle.dates.specs.declared.Moment.the-variants.{Accepted};
-ghost use Rattle.dates.specs.Moment.{momentAfter};
-ghost use Rattle.sheets.specs.Row.{saidOn, refusalIn, rowWritten};
+ghost use Rattle.angles.specs.Sines.{sineEntries};
+ghost use Rattle.places.specs.declared.PlaceAnswer.the-variants.{Found, Refused};
+ghost use Rattle.rows.specs.Fields.{rowSize};
+ghost use Rattle.sheets.specs.Row.{answerWritten, rowWritten};
 ghost use Rattle.sheets.specs.Sheet.{rowsOf, goodOf, isSheet, sheetWritten};
 use dates::Date;
-use dates::Moment;
-use frames::Place;
-use frames::Turned;
+use frames::Coordinates;
+use places::PlaceAnswer;
 use refusals::Refusal;
 use rows::ROW_BYTES;
-
-// What a row says: the minute and the place, or the refusal.
-pub enum Said {
-    Good(i64, Place),
-    Refused(Refusal),
-}
 
 // Document 01's number for the sheet as a whole, and how many of its rows have status 0.
 pub struct SheetAnswer {
@@ -29,84 +21,77 @@ pub struct SheetAnswer {
     pub good: usize,
 }
 
-// What the row of an accepted minute says: refusal 3, then 4.
-fn said_at(table: &[u32; 901], minute: i64, body: i64, frame: i64) -> Said
-    requires { ⌜ now table ≡ sines ⌝ }
-    requires { ⌜ TwoCenturies minute ⌝ }
-    ensures { λ r. ⌜ r ≡ saidOn (Accepted minute) body frame ⌝ }
+// The row of a place that was found, and its status.
+fn put_found(body: i64, frame: i64, minute: i64, p: Coordinates, bytes: &mut [u8]) -> i64
+    requires { ⌜ rowSize ≤ length (now bytes) ⌝ }
+    ensures { λ r. ⌜ (r, now (bytes .exit)) ≡ answerWritten body frame (Found minute p) (now (bytes .entry)) ⌝ }
 {
-    match places::place_at_by(table, minute, body, frame) {
-        Turned::Vector(place) => Said::Good(minute, place),
-        Turned::Refused(refusal) => Said::Refused(refusal),
+    rows::put_good(body, frame, minute, p.x, p.y, p.z, bytes);
+    0
+}
+
+// The row of a refusal, and its status.
+fn put_refusal(body: i64, frame: i64, refusal: Refusal, bytes: &mut [u8]) -> i64
+    requires { ⌜ rowSize ≤ length (now bytes) ⌝ }
+    ensures { λ r. ⌜ (r, now (bytes .exit)) ≡ answerWritten body frame (Refused refusal) (now (bytes .entry)) ⌝ }
+{
+    rows::put_refused(refusal, bytes);
+    refusals::number(refusal)
+}
+
+// The row of an answer into bytes that have room for it, and its status.
+fn put_answer(body: i64, frame: i64, answer: PlaceAnswer, bytes: &mut [u8]) -> i64
+    requires { ⌜ rowSize ≤ length (now bytes) ⌝ }
+    ensures { λ r. ⌜ (r, now (bytes .exit)) ≡ answerWritten body frame answer (now (bytes .entry)) ⌝ }
+{
+    match answer {
+        PlaceAnswer::Found(minute, p) => put_found(body, frame, minute, p, bytes),
+        PlaceAnswer::Refused(refusal) => put_refusal(body, frame, refusal, bytes),
     }
 }
 
-// What the row of a date and an offset says: refusals 1, 2, 3, 4 in order.
-fn said_by(table: &[u32; 901], date: Date, offset: i64, body: i64, frame: i64) -> Said
-    requires { ⌜ now table ≡ sines ⌝ }
-    requires { ⌜ Within 400000000 offset ⌝ }
-    ensures { λ r. ⌜ r ≡ saidOn (momentAfter date offset) body frame ⌝ }
-{
-    match dates::moment_after(date, offset) {
-        Moment::Accepted(minute) => said_at(table, minute, body, frame),
-        Moment::Refused(refusal) => Said::Refused(refusal),
-    }
-}
-
-// The refusal in what a row says; a good one says none, and `NoRow` stands in for it.
-fn refusal_in(said: Said) -> Refusal
-    ensures { λ r. ⌜ r ≡ refusalIn said ⌝ }
-{
-    match said {
-        Said::Good(_, _) => Refusal::NoRow,
-        Said::Refused(refusal) => refusal,
-    }
-}
-
-// The row of a date into the first 38 bytes, and its status; refusal 8 where there is no room for it.
+// The row of a date into the first ROW_BYTES bytes, and its status; refusal 8 where there is no room for it.
 pub fn row(date: Date, body: i64, frame: i64, bytes: &mut [u8]) -> i64
     ensures { λ r. ⌜ (r, now (bytes .exit)) ≡ rowWritten date body frame (now (bytes .entry)) ⌝ }
 {
     if bytes.len() < ROW_BYTES {
         return refusals::number(Refusal::ShortBuffer);
     }
-    let table = angles::table::SINES;
-    let said = said_by(&table, date, 0, body, frame);
-    let Said::Good(minute, place) = said else {
-        let refusal = refusal_in(said);
-        rows::put_refused(refusal, bytes);
-        return refusals::number(refusal);
-    };
-    rows::put_good(body, frame, minute, place.x, place.y, place.z, bytes);
-    0
+    let sines = angles::sines();
+    put_answer(
+        body,
+        frame,
+        places::place_after(&sines, date, 0, body, frame),
+        bytes,
+    )
 }
 
 // The rows of a sheet, and how many of them have status 0. A refused row is written as such, and the next is worked out.
-fn fill(start: Date, step: i64, count: usize, body: i64, frame: i64, bytes: &mut [u8]) -> usize
-    requires { ⌜ (count ≤ 400) × (38 * count ≤ length (now bytes)) ⌝ }
+fn fill(
+    sines: &[u32; 901],
+    start: Date,
+    step: i64,
+    count: usize,
+    body: i64,
+    frame: i64,
+    bytes: &mut [u8],
+) -> usize
+    requires { ⌜ now sines ≡ sineEntries ⌝ }
+    requires { ⌜ (count ≤ 400) × (rowSize * count ≤ length (now bytes)) ⌝ }
     requires { ⌜ Within 1000000 step ⌝ }
-    ensures { λ r. ⌜ (now (bytes .exit) ≡ rowsOf start step body frame count ++ drop (38 * count) (now (bytes .entry))) × (r ≡ goodOf start step body frame count) ⌝ }
+    ensures { λ r. ⌜ (now (bytes .exit) ≡ rowsOf start step body frame count ++ drop (rowSize * count) (now (bytes .entry))) × (r ≡ goodOf start step body frame count) ⌝ }
 {
-    let table = angles::table::SINES;
     let mut good: usize = 0;
     let mut i: usize = 0;
     while i < count {
         let at = ROW_BYTES * i;
-        let said = said_by(&table, start, step * (i as i64), body, frame);
+        let answer = places::place_after(sines, start, step * (i as i64), body, frame);
         i += 1;
-        let Said::Good(minute, place) = said else {
-            rows::put_refused(refusal_in(said), &mut bytes[at..]);
+        let PlaceAnswer::Found(minute, p) = answer else {
+            put_answer(body, frame, answer, &mut bytes[at..]);
             continue;
         };
-        rows::put_good(
-            body,
-            frame,
-            minute,
-            place.x,
-            place.y,
-            place.z,
-            &mut bytes[at..],
-        );
+        put_found(body, frame, minute, p, &mut bytes[at..]);
         good += 1;
     }
     good
@@ -115,7 +100,7 @@ fn fill(start: Date, step: i64, count: usize, body: i64, frame: i64, bytes: &mut
 fn is_sheet(step: i64, count: i64) -> bool
     ensures { λ r. ⌜ r ≡ isSheet step count ⌝ }
 {
-    (1 <= step) & (step <= 1_000_000) & ((0 <= count) & (count <= 400))
+    integers::is_from_to(1, 1_000_000, step) & integers::is_from_to(0, 400, count)
 }
 
 // The rows for start, start + step, and so on, `count` of them: refusal 10, then 8, and then each row has its own status.
@@ -142,8 +127,9 @@ pub fn sheet(
             good: 0,
         };
     }
+    let sines = angles::sines();
     SheetAnswer {
         status: 0,
-        good: fill(start, step, n, body, frame, bytes),
+        good: fill(&sines, start, step, n, body, frame, bytes),
     }
 }

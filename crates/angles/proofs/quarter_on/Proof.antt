@@ -1,6 +1,5 @@
 -- `quarter_on` is a quarter turn on from an angle in one turn, again in one turn.
 -- The result lies in one turn, so it is its own; past 90 degrees it is a whole turn less than the sum.
-use borrow.Author.Needs.{needs}
 use mathlib.Core.Path.{_≡_, subst, sym, ap, _∙_}
 use lib.IntN.{ℤ, pos, negsuc, _+ℤ_, _-ℤ_, _*ℤ_}
 use lib.Signed.{_≤ℤ_, _<ℤ_}

@@ -2,10 +2,9 @@
 -- The rest of the floor division is `turn t`, and the second half of the turn is 360,000,000 less.
 use borrow.Author.Needs.{needs}
 use mathlib.Core.Path.{_≡_, sym, ap, _∙_}
-use Prim.Native.Nat.{ℕ, _-_, _≤_, _<_}
+use Prim.Native.Nat.{ℕ, _-_, _<_}
 use native.Mathlib.Omega.{arith}
 use lib.IntN.{ℤ, pos, negsuc, _-ℤ_}
-use lib.Signed.{_≤ℤ_, _<ℤ_}
 use Rattle.integers.specs.Range.{Within}
 use Rattle.integers.specs.Floor.{floorMod}
 use Rattle.integers.proofs.Difference.{zarith, d-minus}

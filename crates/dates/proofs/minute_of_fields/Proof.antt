@@ -12,7 +12,8 @@ use Rattle.integers.proofs.Cast.{read}
 use Rattle.integers.proofs.Number.{Num, got, lit, sub, sub-fits, w-neg, w-mul, w-add, w-lit, w-floor-any}
 use Rattle.dates.specs.Reach.{RoundFits}
 use Rattle.integers.specs.Sign.{signed}
-use Rattle.dates.specs.Minute.{minute, rounded}
+use Rattle.integers.specs.Floor.{rounded}
+use Rattle.dates.specs.declared.Minute.the-variants.{At}
 use Rattle.dates.proofs.Fields.{near-minute, small-minute}
 use Rattle.dates.proofs.minute_of_fields.Statement.{statement}
 use Rattle.dates.proofs.minute_of_fields.Tie as tie
@@ -78,7 +79,7 @@ returns-2 : tie.Need-returns-2
 returns-2 c =
     let s = c .before .before .before in
     near-minute (s .args .negative) (s .args .x) (s .args .t) (c .before .before .if1 .left) (s .pre .near)
-    ∙ ap minute (sym (sub (rounded-is c) (lit (pos 3530224800)) tt .is))
+    ∙ ap At (sym (sub (rounded-is c) (lit (pos 3530224800)) tt .is))
 
 pub minute-of-fields-spec : {M : Type 1} → statement M
 minute-of-fields-spec =

@@ -5,13 +5,14 @@ use mathlib.Core.List.{[], _∷_}
 use Prim.Native.Nat.{ℕ}
 use mathlib.Core.Path.{_≡_}
 use Rattle.integers.proofs.Cast.{read, back}
-use Rattle.frames.specs.Vector.{at, rowAt}
-use Rattle.frames.proofs.Held.{entry-fits}
+use Rattle.integers.specs.Triple.{at}
+use Rattle.frames.specs.Vector.{rowAt}
+use Rattle.integers.proofs.Arrays.{entry-fits}
 use Rattle.frames.proofs.column.Statement.{statement}
 use Rattle.frames.proofs.column.Tie as tie
 
 entry : (t : tie.Start) (i : ℕ) → read (at (rowAt (t .args .t1) i) (t .args .j)) ≡ at (rowAt (t .args .t1) i) (t .args .j)
-entry t i = back (at (rowAt (t .args .t1) i) (t .args .j)) (entry-fits (t .args .t1) (t .good .0 .0) (t .good .0 .1 .1) i (t .args .j))
+entry t i = back (at (rowAt (t .args .t1) i) (t .args .j)) (entry-fits 3 (t .args .t1) (t .good .0 .0) (t .good .0 .1 .1) i (t .args .j))
 
 returns : tie.Need-returns
 returns c =

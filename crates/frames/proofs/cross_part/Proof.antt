@@ -7,7 +7,7 @@ use lib.IntN.{ℤ, _*ℤ_}
 use Rattle.integers.specs.Floor.{floorDiv}
 use Rattle.integers.proofs.Cast.{read, back-ok}
 use Rattle.integers.proofs.Number.{Num, known, mul-fits, mul, sub-fits, sub}
-use Rattle.frames.specs.Vector.{at}
+use Rattle.integers.specs.Triple.{at}
 use Rattle.frames.proofs.cross_part.Statement.{statement}
 use Rattle.frames.proofs.cross_part.Tie as tie
 

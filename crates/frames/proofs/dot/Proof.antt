@@ -3,11 +3,11 @@
 use borrow.Author.Needs.{needs}
 use Prim.Native.Nat.{ℕ, _+_, _*_, _^_, _<_}
 use native.Mathlib.Omega.{arith}
-use lib.IntN.{ℤ, natAbs, _*ℤ_}
+use lib.IntN.{natAbs, _*ℤ_}
 use Rattle.integers.proofs.Cast.{read}
 use Rattle.integers.proofs.Number.{Num, arg, w-lit, mul-fits<, mul<, add-fits<, add<}
-use Rattle.frames.specs.Vector.{at}
-use Rattle.frames.proofs.Held.{part-fits}
+use Rattle.integers.specs.Triple.{at}
+use Rattle.integers.proofs.Arrays.{part-fits}
 use Rattle.frames.proofs.dot.Statement.{statement}
 use Rattle.frames.proofs.dot.Tie as tie
 

@@ -1,5 +1,5 @@
 -- `hae_turned` turns by the frame's rows, there or back, and leaves a vector of HAE as it is.
--- The test of the code is the definition's; the turn fits by the bounds on every frame's rows and columns.
+-- The test of the code is the definition's; the turn fits, since no frame's rotation makes a vector much longer.
 use borrow.Author.Needs.{needs}
 use mathlib.Core.Path.{_≡_, subst, sym, ap, _∙_}
 use mathlib.Core.List.{List}
@@ -10,11 +10,10 @@ use Rattle.integers.proofs.Same.{same-by-bits, other-by-bits}
 use Rattle.integers.proofs.Cast.{back}
 use Rattle.integers.proofs.Number.{w-fits, w-lit}
 use Rattle.frames.specs.Vector.{applied, wayOf}
-use Rattle.frames.specs.Range.{HasRows, TurnFits}
-use Rattle.frames.specs.Frame.{rotationOf, haeTurned}
+use Rattle.frames.specs.Range.{TurnFits}
+use Rattle.frames.specs.Frame.{HasRows, rotationOf, haeTurned}
 use Rattle.frames.proofs.Choice.{past-hae}
-use Rattle.frames.proofs.Parts.{turn-fits}
-use Rattle.frames.proofs.Rows.{rotation-way}
+use Rattle.frames.proofs.Frames.{hae-turn-fits}
 use Rattle.frames.proofs.hae_turned.Statement.{statement}
 use Rattle.frames.proofs.hae_turned.Tie as tie
 
@@ -22,11 +21,13 @@ returns : tie.Need-returns
 unfolding haeTurned
 returns c = rw (same-by-bits (c .before .fits .frame) (w-fits (w-lit (pos 1)) tt) (c .if1 .taken))
 
+has-rows : (c : tie.Else1) → HasRows (c .before .args .frame)
+has-rows c = past-hae (c .before .args .frame) (c .before .pre .0) (λ e. c .if1 .left (ap (ofZ w64) e))
+
 rotation-requires : tie.Need-rotation-requires
 rotation-requires c κs =
     let t = c .before in
-    let f = t .args .frame in
-    (subst HasRows (sym (back f (t .fits .frame))) (past-hae f (t .pre .0) (λ e. c .if1 .left (ap (ofZ w64) e))), t .pre .1 .0)
+    (subst HasRows (sym (back (t .args .frame) (t .fits .frame))) (has-rows c), t .pre .1 .0 .parts)
 
 -- the rows that the calls gave are the definition's
 rows-are : (c : tie.After-way) → c .way .result ≡ wayOf (c .before .before .before .args .back) (rotationOf (c .before .before .before .args .frame) (c .before .before .before .args .earth))
@@ -36,10 +37,10 @@ rows-are c =
 
 applied-requires : tie.Need-applied-requires
 applied-requires c κs =
-    let t = c .before .before .before in
-    let m = wayOf (t .args .back) (rotationOf (t .args .frame) (t .args .earth)) in
+    let e = c .before .before in
+    let t = e .before in
     subst (λ (x : List (List ℤ)). TurnFits x (t .args .v)) (sym (rows-are c))
-    (turn-fits m (t .args .v) (rotation-way (t .args .frame) (t .args .earth) (t .pre .1 .0) (t .args .back)) (t .pre .1 .1) tt)
+    (hae-turn-fits (t .args .earth) (t .args .back) (t .args .frame) (t .args .v) (has-rows e) (t .pre .1 .0) (t .pre .1 .1))
 
 returns-2 : tie.Need-returns-2
 unfolding haeTurned

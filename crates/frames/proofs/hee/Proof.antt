@@ -8,10 +8,11 @@ use lib.IntN.{pos}
 use Rattle.integers.proofs.Cast.{read}
 use Rattle.integers.proofs.Ring.{zero-minus}
 use Rattle.integers.proofs.Number.{Num, known, lit, sub-fits, sub}
-use Rattle.frames.specs.Vector.{at, unitOf}
-use Rattle.frames.specs.Range.{PartsWithin}
+use Rattle.integers.specs.Triple.{at}
+use Rattle.frames.specs.Vector.{unitOf}
+use Rattle.integers.specs.Triple.{PartsWithin}
 use Rattle.frames.specs.Frame.{onEcliptic, heeOf, heeRows}
-use Rattle.frames.proofs.Parts.{parts-more}
+use Rattle.integers.proofs.Triples.{parts-more}
 use Rattle.frames.proofs.Rows.{ecliptic-small, unit-of-place}
 use Rattle.frames.proofs.hee.Statement.{statement}
 use Rattle.frames.proofs.hee.Tie as tie

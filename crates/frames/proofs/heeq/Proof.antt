@@ -4,9 +4,9 @@ use borrow.Author.Needs.{needs}
 use mathlib.Core.Path.{_≡_, subst, sym, ap, _∙_}
 use mathlib.Core.List.{[], _∷_}
 use Rattle.frames.specs.Vector.{unitOf, crossOf}
-use Rattle.frames.specs.Range.{PartsWithin}
-use Rattle.frames.specs.Frame.{acrossOf, heeqRows}
-use Rattle.frames.proofs.Parts.{parts-more}
+use Rattle.integers.specs.Triple.{PartsWithin}
+use Rattle.frames.specs.Frame.{axisCross, heeqRows}
+use Rattle.integers.proofs.Triples.{parts-more}
 use Rattle.frames.proofs.Rows.{axis-small, unit-of-place, across-small, across-unit-small}
 use Rattle.frames.proofs.heeq.Statement.{statement}
 use Rattle.frames.proofs.heeq.Tie as tie
@@ -21,7 +21,7 @@ cross-requires c κs =
       subst (PartsWithin 1000000000) (sym (c .unit .ensures)) (unit-of-place (t .args .earth) (t .pre)),
     )
 
-across-is : (c : tie.After-cross) → c .cross .result ≡ acrossOf (c .before .before .before .args .earth)
+across-is : (c : tie.After-cross) → c .cross .result ≡ axisCross (c .before .before .before .args .earth)
 across-is c = c .cross .ensures ∙ (λ i. crossOf (c .before .before .solar-axis .ensures i) (c .before .unit .ensures i))
 
 unit-requires-2 : tie.Need-unit-requires-2
@@ -29,7 +29,7 @@ unit-requires-2 c κs =
     let t = c .before .before .before in
     subst (PartsWithin 2000000000) (sym (across-is c)) (across-small (t .args .earth) (t .pre))
 
-Y-is : (c : tie.After-unit2) → c .unit2 .result ≡ unitOf (acrossOf (c .before .before .before .before .args .earth))
+Y-is : (c : tie.After-unit2) → c .unit2 .result ≡ unitOf (axisCross (c .before .before .before .before .args .earth))
 Y-is c = c .unit2 .ensures ∙ ap unitOf (across-is (c .before))
 
 cross-requires-2 : tie.Need-cross-requires-2

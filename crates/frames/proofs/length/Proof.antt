@@ -6,7 +6,8 @@ use Prim.Native.Nat.{ℕ, _+_, _≤_}
 use native.Mathlib.Omega.{arith}
 use Rattle.integers.specs.Root.{rootOf}
 use Rattle.integers.proofs.Number.{known}
-use Rattle.frames.specs.Vector.{at, squareOf, lengthOf}
+use Rattle.integers.specs.Triple.{at}
+use Rattle.frames.specs.Vector.{squareOf, lengthOf}
 use Rattle.integers.proofs.Number.{w-read}
 use Rattle.frames.proofs.Lengths.{squares-small, squares-fit, length-small}
 use Rattle.frames.proofs.length.Statement.{statement}

@@ -13,7 +13,8 @@ use Rattle.integers.specs.Floor.{floorDiv}
 use Rattle.integers.proofs.Difference.{zarith}
 use Rattle.integers.proofs.Cast.{read, back-ok, of-nat}
 use Rattle.integers.proofs.Number.{known}
-use Rattle.frames.specs.Vector.{at, overLength}
+use Rattle.integers.specs.Triple.{at}
+use Rattle.frames.specs.Vector.{overLength}
 use Rattle.integers.proofs.Number.{w-read}
 use Rattle.frames.proofs.over_length.Statement.{statement}
 use Rattle.frames.proofs.over_length.Tie as tie

@@ -11,13 +11,15 @@ use lib.Dec.{leb}
 use lib.IntN.{ℤ}
 use Rattle.frames.specs.declared.Turned.the-variants.{Vector}
 use Rattle.frames.specs.Vector.{applied, wayOf, lengthOf, overLength, unitOf, crossOf}
-use Rattle.frames.specs.Range.{PartsWithin, TurnFits}
-use Rattle.frames.specs.Answer.{inReach, placeOf}
-use Rattle.frames.specs.Frame.{acrossOf}
+use Rattle.integers.specs.Triple.{PartsWithin}
+use Rattle.frames.specs.Range.{TurnFits}
+use Rattle.frames.specs.Answer.{inLimits, asCoordinates}
+use Rattle.frames.specs.Frame.{axisCross}
 use Rattle.frames.specs.Rtn.{rtnOf, rtnRows, rtnTurned}
-use Rattle.frames.proofs.Choice.{reach-parts}
-use Rattle.frames.proofs.Parts.{parts-more, turn-fits}
-use Rattle.frames.proofs.Rows.{axis-small, unit-of-place, across-small, across-unit-small, rtn-way}
+use Rattle.frames.proofs.Choice.{limits-parts}
+use Rattle.integers.proofs.Triples.{parts-more}
+use Rattle.frames.proofs.Rows.{axis-small, unit-of-place, across-small, across-unit-small}
+use Rattle.frames.proofs.Frames.{rtn-turn-fits}
 use Rattle.frames.proofs.rtn_turned.Statement.{statement}
 use Rattle.frames.proofs.rtn_turned.Tie as tie
 
@@ -25,31 +27,31 @@ returns : tie.Need-returns
 unfolding rtnTurned
 returns c =
     let s = c .before in
-    sym (rw (sym (s .in-reach .ensures) ∙ not-true (s .in-reach .result) (c .if1 .taken)))
+    sym (rw (sym (s .in-limits .ensures) ∙ not-true (s .in-limits .result) (c .if1 .taken)))
 
 -- past the first test the vector is near
-v-near : (c : tie.Else1) → inReach (c .before .before .args .v) ≡ true
-v-near c = sym (c .before .in-reach .ensures) ∙ not-false (c .before .in-reach .result) (c .if1 .left)
+v-near : (c : tie.Else1) → inLimits (c .before .before .args .v) ≡ true
+v-near c = sym (c .before .in-limits .ensures) ∙ not-false (c .before .in-limits .result) (c .if1 .left)
 
 returns-2 : tie.Need-returns-2
 unfolding rtnTurned
 returns-2 c =
     let s = c .before in
-    sym (rw (v-near (s .before), sym (s .in-reach2 .ensures) ∙ not-true (s .in-reach2 .result) (c .if2 .taken)))
+    sym (rw (v-near (s .before), sym (s .in-limits2 .ensures) ∙ not-true (s .in-limits2 .result) (c .if2 .taken)))
 
 -- past the second so is the place
 module _ (c : tie.Else2) where
   abbrev t : tie.Start
   t = c .before .before .before .before
 
-  r-near : inReach (t .args .r) ≡ true
-  r-near = sym (c .before .in-reach2 .ensures) ∙ not-false (c .before .in-reach2 .result) (c .if2 .left)
+  r-near : inLimits (t .args .r) ≡ true
+  r-near = sym (c .before .in-limits2 .ensures) ∙ not-false (c .before .in-limits2 .result) (c .if2 .left)
 
   v-parts : PartsWithin 500000000 (t .args .v)
-  v-parts = reach-parts (t .args .v) (t .good .1 .1 .0 .1 .0 .1) (v-near (c .before .before))
+  v-parts = limits-parts (t .args .v) (t .good .1 .1 .0 .1 .0 .1) (v-near (c .before .before))
 
   r-parts : PartsWithin 1000000000 (t .args .r)
-  r-parts = parts-more (reach-parts (t .args .r) (t .good .1 .0 .1 .0 .1) r-near) tt
+  r-parts = parts-more (limits-parts (t .args .r) (t .good .1 .0 .1 .0 .1) r-near) tt
 
 length-requires : tie.Need-length-requires
 length-requires c κs = parts-more (r-parts c) tt
@@ -63,11 +65,11 @@ returns-3 c =
     sym (rw (v-near (e .before .before), r-near e, lt-leb 100000 (lengthOf (t e .args .r)) l))
 
 -- past the third it has a length
-long : (c : tie.Else3) → leb 100000 (lengthOf (t (c .before .before) .args .r)) ≡ true
-long c =
-    let s = c .before in
-    let l : 100000 ≤ lengthOf (t (s .before) .args .r) = subst (λ (n : ℕ). 100000 ≤ n) (s .length .ensures .0) (omega arith) in
-    le-leb 100000 (lengthOf (t (s .before) .args .r)) l
+long : (c : tie.Else3) → 100000 ≤ lengthOf (t (c .before .before) .args .r)
+long c = subst (λ (n : ℕ). 100000 ≤ n) (c .before .length .ensures .0) (omega arith)
+
+is-long : (c : tie.Else3) → leb 100000 (lengthOf (t (c .before .before) .args .r)) ≡ true
+is-long c = le-leb 100000 (lengthOf (t (c .before .before) .args .r)) (long c)
 
 over-length-requires : tie.Need-over-length-requires
 over-length-requires c κs = (c .before .length .ensures .1, parts-more (r-parts (c .before .before)) tt)
@@ -95,7 +97,7 @@ module _ (c : tie.After-cross) where
   abbrev r : List ℤ
   r = t e .args .r
 
-  across-is : c .cross .result ≡ acrossOf r
+  across-is : c .cross .result ≡ axisCross r
   across-is = c .cross .ensures ∙ (λ i. crossOf (c .before .solar-axis .ensures i) (radial-is (c .before .before) i))
 
   across-parts : PartsWithin 2000000000 (c .cross .result)
@@ -104,7 +106,7 @@ module _ (c : tie.After-cross) where
 length-requires-2 : tie.Need-length-requires-2
 length-requires-2 c κs = across-parts c
 
-across-length : (c : tie.After-length2) → c .length2 .result ≡ lengthOf (acrossOf (r (c .before)))
+across-length : (c : tie.After-length2) → c .length2 .result ≡ lengthOf (axisCross (r (c .before)))
 across-length c = c .length2 .ensures .0 ∙ ap lengthOf (across-is (c .before))
 
 returns-4 : tie.Need-returns-4
@@ -112,14 +114,18 @@ unfolding rtnTurned
 returns-4 c =
     let s = c .before in
     let x = s .before in
-    let l : lengthOf (acrossOf (r x)) < 1000000 = subst (λ (n : ℕ). n < 1000000) (across-length s) (c .if4 .taken) in
-    sym (rw (v-near (e x .before .before), r-near (e x), long (x .before .before .before), lt-leb 1000000 (lengthOf (acrossOf (r x))) l))
+    let l : lengthOf (axisCross (r x)) < 1000000 = subst (λ (n : ℕ). n < 1000000) (across-length s) (c .if4 .taken) in
+    sym (rw (v-near (e x .before .before), r-near (e x), is-long (x .before .before .before), lt-leb 1000000 (lengthOf (axisCross (r x))) l))
+
+-- past the fourth so does S×R
+across-far : (c : tie.Else4) → 1000000 ≤ lengthOf (axisCross (r (c .before .before)))
+across-far c = subst (λ (n : ℕ). 1000000 ≤ n) (across-length (c .before)) (omega arith)
 
 over-length-requires-2 : tie.Need-over-length-requires-2
 over-length-requires-2 c κs = (c .before .length2 .ensures .1, across-parts (c .before .before))
 
 -- T
-tangential-is : (c : tie.After-over-length2) → c .over-length2 .result ≡ unitOf (acrossOf (r (c .before .before .before)))
+tangential-is : (c : tie.After-over-length2) → c .over-length2 .result ≡ unitOf (axisCross (r (c .before .before .before)))
 unfolding unitOf
 tangential-is c =
     let s = c .before .before in
@@ -143,10 +149,11 @@ rows-are c =
 
 applied-requires : tie.Need-applied-requires
 applied-requires c κs =
-    let x = c .before .before .before .before .before in
+    let d = c .before .before .before in
+    let x = d .before .before in
     let v = t (e x) .args .v in
     subst (λ (m : List (List ℤ)). TurnFits m v) (sym (rows-are c))
-    (turn-fits (wayOf (t (e x) .args .back) (rtnRows (r x))) v (rtn-way (r x) (r-parts (e x)) (t (e x) .args .back)) (v-parts (e x)) tt)
+    (rtn-turn-fits (t (e x) .args .back) (r x) v (r-parts (e x)) (long (x .before .before .before)) (across-far d) (v-parts (e x)))
 
 returns-5 : tie.Need-returns-5
 unfolding rtnTurned
@@ -155,9 +162,8 @@ returns-5 c =
     let d = a .before .before .before .before in
     let x = d .before .before in
     let v = t (e x) .args .v in
-    let l : 1000000 ≤ lengthOf (acrossOf (r x)) = subst (λ (n : ℕ). 1000000 ≤ n) (across-length (d .before)) (omega arith) in
-    ap Vector (c .place-of .ensures ∙ ap placeOf (a .applied .ensures ∙ ap (λ (m : List (List ℤ)). applied m v) (rows-are (a .before))))
-    ∙ sym (rw (v-near (e x .before .before), r-near (e x), long (x .before .before .before), le-leb 1000000 (lengthOf (acrossOf (r x))) l))
+    ap Vector (c .as-coordinates .ensures ∙ ap asCoordinates (a .applied .ensures ∙ ap (λ (m : List (List ℤ)). applied m v) (rows-are (a .before))))
+    ∙ sym (rw (v-near (e x .before .before), r-near (e x), is-long (x .before .before .before), le-leb 1000000 (lengthOf (axisCross (r x))) (across-far d)))
 
 pub rtn-turned-spec : {M : Type 1} → statement M
 rtn-turned-spec =

@@ -1,7 +1,7 @@
 -- `end_turn` is floor(z / 10^9) of any z.
 -- By what `floor_div` ensures; the number is read back before and after.
 use borrow.Author.Needs.{needs}
-use mathlib.Core.Path.{_≡_, ap, _∙_}
+use mathlib.Core.Path.{ap, _∙_}
 use Rattle.integers.specs.Floor.{endTurn}
 use Rattle.integers.proofs.Cast.{back, back-ok}
 use Rattle.integers.proofs.end_turn.Statement.{statement}
@@ -11,6 +11,7 @@ floor-div-requires : tie.Need-floor-div-requires
 floor-div-requires c κs = search needs
 
 returns : tie.Need-returns
+unfolding endTurn
 returns c =
     back-ok (c .floor-div .result) (c .floor-div .ok) ∙ c .floor-div .ensures ∙ ap endTurn (back (c .before .args .z) (c .before .fits .z))
 

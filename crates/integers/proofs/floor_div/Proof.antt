@@ -1,7 +1,7 @@
 -- `floor_div` gives the floor: the machine's quotient, or one less where the rest is below zero.
 -- By the law that takes the floor from the machine's quotient and rest (Division).
-use mathlib.Core.Path.{_≡_, subst, sym, _∙_}
-use lib.IntN.{ℤ, pos, natAbs, _-ℤ_}
+use mathlib.Core.Path.{subst, sym, _∙_}
+use lib.IntN.{pos, natAbs, _-ℤ_}
 use lib.Signed.{quotZ}
 use mir.Syntax.{w64}
 use mir.Val.{SFits}

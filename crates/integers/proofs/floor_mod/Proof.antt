@@ -1,15 +1,14 @@
 -- `floor_mod` gives what the floor leaves: the machine's rest, or d more where that is below zero.
 -- By the law that takes the floor's rest from the machine's (Division).
-use mathlib.Core.Path.{_≡_, subst, sym, _∙_}
+use mathlib.Core.Path.{subst, sym, _∙_}
 use lib.IntN.{ℤ, pos, natAbs, _+ℤ_}
 use lib.Signed.{remZ}
 use mir.Syntax.{w64}
 use mir.Val.{SFits}
 use Prim.Native.Nat.{ℕ, zero, suc, _<_}
 use native.Mathlib.Omega.{arith}
-use Rattle.integers.specs.Range.{Within}
 use Rattle.integers.specs.Floor.{floorMod}
-use Rattle.integers.proofs.Difference.{up, dn, zarith}
+use Rattle.integers.proofs.Difference.{zarith}
 use Rattle.integers.proofs.Floor.{pos-abs, abs-pos, mod-low, mod-high}
 use Rattle.integers.proofs.Cast.{fits₂, val₂}
 use Rattle.integers.proofs.Division.{read-divisor, div-need, rest, floor-below, floor-not-below}

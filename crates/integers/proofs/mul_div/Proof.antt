@@ -1,15 +1,13 @@
 -- `mul_div` gives floor(a b / d) though a b need not fit: with b = q d + s and a = u d + v it is a q + u s + floor(v s / d).
 -- Each part is the machine's quotient or rest with a bound, and the identity is `floor-split`.
-use borrow.Author.Needs.{needs}
-use Prim.Native.Nat.{ℕ, _+_, _*_, _/_, _<_, _^_}
+use Prim.Native.Nat.{ℕ, _*_, _/_, _<_, _^_}
 use native.Mathlib.Omega.{arith}
-use native.Mathlib.Nat.{le-refl, le-of-lt, mul-le-mul}
-use mathlib.Core.Path.{_≡_, _∙_, sym, ap, subst}
-use lib.IntN.{ℤ, pos, natAbs, _+ℤ_, _*ℤ_}
+use native.Mathlib.Nat.{le-refl, le-of-lt}
+use mathlib.Core.Path.{_∙_, sym, subst}
+use lib.IntN.{ℤ, pos, natAbs, _*ℤ_}
 use lib.Signed.{_<ℤ_, quotZ, remZ}
 use mir.Syntax.{w64}
 use mir.Val.{SFits}
-use Rattle.integers.specs.Range.{Within, SplitFits}
 use Rattle.integers.specs.Floor.{floorDiv}
 use Rattle.integers.proofs.Floor.{abs-pos, quot-rem, quot-abs, rem-small, floor-split}
 use Rattle.integers.proofs.Cast.{read, back}

@@ -5,7 +5,8 @@ use Prim.Native.Nat.{ℕ, zero, suc, _+_, _-_, _*_, _^_, _≤_, _<_}
 use native.Mathlib.Omega.{arith}
 use borrow.Author.Needs.{needs}
 use Rattle.integers.specs.Root.{IsRoot, rootOf}
-use Rattle.integers.proofs.Roots.{square-mono, root-by, root-is, root-only, root-small}
+use Rattle.integers.proofs.Squares.{square-mono}
+use Rattle.integers.proofs.Roots.{root-by, root-is, root-only}
 use Rattle.integers.proofs.root_near.Statement.{statement}
 use Rattle.integers.proofs.root_near.Tie as tie
 

@@ -1,9 +1,8 @@
 -- `unit_product` is floor(a b / 10^9), where the product fits.
 -- The bound on the product is the caller's; the floor is `floor_div`'s.
 use borrow.Author.Needs.{needs}
-use mathlib.Core.Path.{_≡_, ap, _∙_}
-use lib.IntN.{ℤ, natAbs, _*ℤ_}
-use native.Mathlib.Nat.{le-refl}
+use mathlib.Core.Path.{ap, _∙_}
+use lib.IntN.{ℤ, natAbs}
 use Rattle.integers.specs.Floor.{floorDiv}
 use Rattle.integers.proofs.Cast.{read, back-ok}
 use Rattle.integers.proofs.Number.{Num, arg, w-lit, mul<, mul-fits<}

@@ -1,8 +1,7 @@
--- `angle_at` is the angle at a place: 180,000,000 less.
+-- `angle_at` is the angle at a grid point: 180,000,000 less.
 -- By the numbers with bounds of `integers`; the difference of two naturals is `angleAt` by computation.
 use borrow.Author.Needs.{needs}
-use mathlib.Core.Path.{_≡_, _∙_}
-use lib.IntN.{pos, _-ℤ_}
+use lib.IntN.{pos}
 use mir.Syntax.{w64}
 use mir.Val.{toZ}
 use Rattle.integers.proofs.Number.{Num, of-unsigned, lit, sub, sub-fits}

@@ -1,4 +1,4 @@
--- `tangent` overflows nowhere; what it gives is a wish only.
+-- `tangent` overflows nowhere; what it gives is a guess only.
 -- A quotient is at most the number divided.
 use borrow.Author.Needs.{needs}
 use Prim.Native.Nat.{_-_}

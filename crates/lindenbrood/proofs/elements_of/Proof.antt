@@ -1,40 +1,27 @@
 -- `elements_of` gives C the number and the six elements, zeros where there are none.
 -- In each arm the answer is that arm's case.
 use borrow.Author.Needs.{needs}
-use mathlib.Core.Path.{_≡_, sym, ap, _∙_}
-use lib.IntN.{ℤ, pos}
+use mathlib.Core.Path.{sym, ap, _∙_}
+use lib.IntN.{ℤ}
 use Rattle.integers.proofs.Cast.{back-ok}
-use Rattle.lindenbrood.specs.Answer.{sixElements, elementsOf}
+use Rattle.orbits.specs.Answer.{noElements}
+use Rattle.lindenbrood.specs.Answer.{sixElements, cElements}
 use Rattle.lindenbrood.proofs.elements_of.Statement.{statement}
 use Rattle.lindenbrood.proofs.elements_of.Tie as tie
 
-enum-known-answer : tie.Need-enum-known-answer
-enum-known-answer c = search needs
-
-found-of-requires : tie.Need-found-of-requires
-found-of-requires c κs = search needs
-
-enum-known-answer-2 : tie.Need-enum-known-answer-2
-enum-known-answer-2 c = search needs
-
-number-requires : tie.Need-number-requires
-number-requires c κs = search needs
-
 returns : tie.Need-returns
-returns c = c .found-of .ensures ∙ sym (ap elementsOf (c .before .before .answer .given .1))
+returns c = c .found-of .ensures ∙ sym (ap cElements (c .before .before .answer .given .1))
 
 returns-2 : tie.Need-returns-2
-returns-2 c =
-    ap (λ (s : ℤ). sixElements s (pos 0) (pos 0) (pos 0) (pos 0) (pos 0) (pos 0)) (back-ok (c .number .result) (c .number .ok) ∙ c .number .ensures)
-    ∙ sym (ap elementsOf (c .before .before .answer2 .given .1))
+returns-2 c = ap (λ (s : ℤ). sixElements s noElements) (back-ok (c .number .result) (c .number .ok) ∙ c .number .ensures) ∙ sym (ap cElements (c .before .before .answer2 .given .1))
 
 pub elements-of-spec : {M : Type 1} → statement M
 elements-of-spec =
     tie.close
     (tie.spec
-    enum-known-answer
-    found-of-requires
-    enum-known-answer-2
-    number-requires
+    (λ c. search needs)
+    (λ c κs. search needs)
+    (λ c. search needs)
+    (λ c κs. search needs)
     returns
     returns-2)

@@ -2,50 +2,40 @@
 -- By what each call ensures.
 use borrow.Author.Needs.{needs}
 use mathlib.Core.Path.{_≡_, _∙_}
-use lib.IntN.{pos}
-use Rattle.integers.proofs.Cast.{back-ok}
-use Rattle.lindenbrood.specs.Answer.{sixElements}
+use Prim.Native.Nat.{_<_, _^_}
+use lib.IntN.{ℤ, pos}
+use lib.Signed.{mag}
+use Rattle.integers.proofs.Cast.{read, back-ok}
 use Rattle.lindenbrood.proofs.found_of.Statement.{statement}
 use Rattle.lindenbrood.proofs.found_of.Tie as tie
 
-hundred-millionths-requires : tie.Need-hundred-millionths-requires
-hundred-millionths-requires c κs = search needs
-
-hundred-millionths-requires-2 : tie.Need-hundred-millionths-requires-2
-hundred-millionths-requires-2 c κs = search needs
-
-hundred-millionths-requires-3 : tie.Need-hundred-millionths-requires-3
-hundred-millionths-requires-3 c κs = search needs
-
-hundred-millionths-requires-4 : tie.Need-hundred-millionths-requires-4
-hundred-millionths-requires-4 c κs = search needs
-
-hundred-millionths-requires-5 : tie.Need-hundred-millionths-requires-5
-hundred-millionths-requires-5 c κs = search needs
-
-hundred-millionths-requires-6 : tie.Need-hundred-millionths-requires-6
-hundred-millionths-requires-6 c κs = search needs
+-- a call's result, read back, is what the call ensures
+same : {x z : ℤ} → mag x < 2 ^ 63 → x ≡ z → read x ≡ z
+same {x} f e = back-ok x f ∙ e
 
 returns : tie.Need-returns
 returns c =
-    λ i.
-    sixElements
-    (pos 0)
-    ((back-ok (c .before .before .before .before .before .hundred-millionths .result) (c .before .before .before .before .before .hundred-millionths .ok) ∙ c .before .before .before .before .before .hundred-millionths .ensures) i)
-    ((back-ok (c .before .before .before .before .hundred-millionths2 .result) (c .before .before .before .before .hundred-millionths2 .ok) ∙ c .before .before .before .before .hundred-millionths2 .ensures) i)
-    ((back-ok (c .before .before .before .hundred-millionths3 .result) (c .before .before .before .hundred-millionths3 .ok) ∙ c .before .before .before .hundred-millionths3 .ensures) i)
-    ((back-ok (c .before .before .hundred-millionths4 .result) (c .before .before .hundred-millionths4 .ok) ∙ c .before .before .hundred-millionths4 .ensures) i)
-    ((back-ok (c .before .hundred-millionths5 .result) (c .before .hundred-millionths5 .ok) ∙ c .before .hundred-millionths5 .ensures) i)
-    ((back-ok (c .hundred-millionths6 .result) (c .hundred-millionths6 .ok) ∙ c .hundred-millionths6 .ensures) i)
+    let c5 = c .before in
+    let c4 = c5 .before in
+    let c3 = c4 .before in
+    let c2 = c3 .before in
+    let c1 = c2 .before in
+    let a = same (c1 .hundred-millionths .ok) (c1 .hundred-millionths .ensures) in
+    let e = same (c2 .hundred-millionths2 .ok) (c2 .hundred-millionths2 .ensures) in
+    let l = same (c3 .hundred-millionths3 .ok) (c3 .hundred-millionths3 .ensures) in
+    let m = same (c4 .hundred-millionths4 .ok) (c4 .hundred-millionths4 .ensures) in
+    let p = same (c5 .hundred-millionths5 .ok) (c5 .hundred-millionths5 .ensures) in
+    let n = same (c .hundred-millionths6 .ok) (c .hundred-millionths6 .ensures) in
+    λ i. record { status = pos 0; a = a i; e = e i; inclination = l i; longitude = m i; perihelion = p i; node = n i }
 
 pub found-of-spec : {M : Type 1} → statement M
 found-of-spec =
     tie.close
     (tie.spec
-    hundred-millionths-requires
-    hundred-millionths-requires-2
-    hundred-millionths-requires-3
-    hundred-millionths-requires-4
-    hundred-millionths-requires-5
-    hundred-millionths-requires-6
+    (λ c κs. search needs)
+    (λ c κs. search needs)
+    (λ c κs. search needs)
+    (λ c κs. search needs)
+    (λ c κs. search needs)
+    (λ c κs. search needs)
     returns)

@@ -1,22 +1,13 @@
 -- `lindenbrood_write_row` answers, and leaves its bytes, as the writer of these fields says.
 -- By what the two calls ensure; the numbers are read back once.
 use borrow.Author.Needs.{needs}
-use mathlib.Core.Path.{_≡_, ap, _∙_}
+use mathlib.Core.Path.{ap, _∙_}
 use lib.IntN.{ℤ}
 use Rattle.integers.proofs.Cast.{back, back-ok}
 use Rattle.rows.specs.Answer.{written}
 use Rattle.lindenbrood.specs.Lent.{rowOfFields, writtenNumber}
 use Rattle.lindenbrood.proofs.lindenbrood_write_row.Statement.{statement}
 use Rattle.lindenbrood.proofs.lindenbrood_write_row.Tie as tie
-
-write-row-requires : tie.Need-write-row-requires
-write-row-requires c κs = search needs
-
-written-of-requires : tie.Need-written-of-requires
-written-of-requires c κs = search needs
-
-same-length : tie.Need-same-length
-same-length c = search needs
 
 returns : tie.Need-returns
 returns c =
@@ -27,4 +18,9 @@ returns c =
 
 pub lindenbrood-write-row-spec : {M : Type 1} → statement M
 lindenbrood-write-row-spec =
-    tie.close (tie.spec write-row-requires written-of-requires same-length returns)
+    tie.close
+    (tie.spec
+    (λ c κs. search needs)
+    (λ c κs. search needs)
+    (λ c. search needs)
+    returns)

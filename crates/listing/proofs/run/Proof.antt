@@ -1,4 +1,4 @@
--- `run` keeps the places in both buffers within them, from read to read.
+-- `run` keeps the counts of bytes in both buffers within them, from read to read.
 -- The measure is the count of reads that are left.
 use borrow.Author.Needs.{needs}
 use mathlib.Core.Path.{_≡_}
@@ -8,10 +8,10 @@ use Rattle.listing.proofs.run.Statement.{statement}
 use Rattle.listing.proofs.run.Tie as tie
 
 abbrev Inv-loop : tie.InvT-loop
-Inv-loop table text₀ out₀ held₀ at₀ turns₀ text out held at turns = (held ≤ 36) × (at ≤ 65536) × (length text ≡ 36) × (length out ≡ 65536)
+Inv-loop sines text₀ out₀ held₀ at₀ turns₀ text out held at turns = (held ≤ 36) × (at ≤ 65536) × (length text ≡ 36) × (length out ≡ 65536)
 
 abbrev μ-loop : tie.MeasureT-loop
-μ-loop table text₀ out₀ held₀ at₀ turns₀ text out held at turns = turns
+μ-loop sines text₀ out₀ held₀ at₀ turns₀ text out held at turns = turns
 
 loop-holds : tie.Need-loop-holds Inv-loop μ-loop
 loop-holds c = search needs

@@ -1,4 +1,4 @@
--- `take_block` keeps the places in both buffers within them.
+-- `take_block` keeps the counts of bytes in both buffers within them.
 -- A part has at most 256 bytes and prints at most 147 for each, which fits behind the 27,904 that `flushed` leaves.
 use borrow.Author.Needs.{needs}
 use mathlib.Core.List.{List}
@@ -10,7 +10,7 @@ use Rattle.listing.proofs.take_block.Statement.{statement}
 use Rattle.listing.proofs.take_block.Tie as tie
 
 abbrev Inv-loop : tie.InvT-loop
-Inv-loop table block text₀ held out₀ at n₀ ready₀ from₀ text out n ready from =
+Inv-loop sines block text₀ held out₀ at n₀ ready₀ from₀ text out n ready from =
     (from ≤ length block)
     × (n ≤ 36)
     × (ready ≤ 65536)
@@ -18,7 +18,7 @@ Inv-loop table block text₀ held out₀ at n₀ ready₀ from₀ text out n rea
     × (length out ≡ 65536)
 
 abbrev μ-loop : tie.MeasureT-loop
-μ-loop table block text₀ held out₀ at n₀ ready₀ from₀ text out n ready from = length block - from
+μ-loop sines block text₀ held out₀ at n₀ ready₀ from₀ text out n ready from = length block - from
 
 part-short : (l : List ℕ) (a e : ℕ) → e ≤ a + 256 → length (take (e - a) (drop a l)) ≤ 256
 part-short l a e h = omega (arith, length-take (e - a) (drop a l))
@@ -64,8 +64,8 @@ loop-again c =
     let s = at .before .before .before .before in
     let v = at .loop .inv in (
       p .part-end .ensures .within,
-      d .feed .ensures .few,
-      omega (arith, d .feed .ensures .within, f .flushed .ensures, part-short (s .args .block .now) (at .loop .from) (p .part-end .result) (p .part-end .ensures .few)),
+      d .feed .ensures .0 .few,
+      omega (arith, d .feed .ensures .1 .within, f .flushed .ensures, part-short (s .args .block .now) (at .loop .from) (p .part-end .result) (p .part-end .ensures .few)),
       d .feed .kept .1 .1 .0 ∙ v .3,
       d .feed .kept .1 .1 .1 .1 .0 ∙ v .4,
     )

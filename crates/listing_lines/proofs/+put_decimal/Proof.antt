@@ -9,8 +9,8 @@ use lib.ListN.{length}
 use Rattle.listing_lines.specs.Decimal.{decimalOf}
 use Rattle.listing_lines.specs.Put.{Put}
 use Rattle.listing_lines.proofs.Decimals.{one-digit, more-digits, more-length, tenth-less}
-use Rattle.listing_lines.proofs.Places.{put-then}
-use Prim.Native.Nat.{ℕ, _+_, _/_, _≤_, _<_}
+use Rattle.listing_lines.proofs.Puts.{put-then}
+use Prim.Native.Nat.{ℕ, _/_, _≤_, _<_}
 use borrow.Fn.Kinds.{In}
 use borrow.Fn.PlainCycle.{Measures, is, falls, and}
 use Rattle.listing_lines.proofs.put_decimal.Reads as put-decimal

@@ -1,5 +1,5 @@
 -- `digits_in` gives the number of one to ten digits, and nothing for any other text.
--- Invariant: what is left to read from place i on gives what the whole text gives, and the number so far is below 10^i.
+-- Invariant: what is left to read from byte i on gives what the whole text gives, and the number so far is below 10^i.
 use borrow.Author.Tests.{not-true, not-false}
 use borrow.Author.Needs.{needs}
 use mathlib.Core.Path.{_≡_, sym, ap, _∙_}

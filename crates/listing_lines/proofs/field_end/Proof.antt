@@ -1,5 +1,5 @@
 -- `field_end` gives how many bytes stand before the first space.
--- Invariant: the first space of what is left from place i on is that of the whole text.
+-- Invariant: the first space of what is left from byte i on is that of the whole text.
 use borrow.Author.Needs.{needs}
 use mathlib.Core.Path.{_≡_}
 use Prim.Native.Nat.{_+_, _-_, _≤_}

@@ -1,7 +1,7 @@
--- `put_byte` leaves its byte at the place, and every other one as it was.
+-- `put_byte` leaves its byte at byte `at`, and every other one as it was.
 -- A store is what stands before it, the byte, and what stands behind (Places).
 use borrow.Author.Needs.{needs}
-use Rattle.listing_lines.proofs.Places.{put-one}
+use Rattle.listing_lines.proofs.Puts.{put-one}
 use Rattle.listing_lines.proofs.put_byte.Statement.{statement}
 use Rattle.listing_lines.proofs.put_byte.Tie as tie
 

@@ -7,7 +7,7 @@ use lib.IntN.{ℤ}
 use Rattle.integers.proofs.Cast.{back}
 use Rattle.listing_lines.specs.Decimal.{signedOf}
 use Rattle.listing_lines.specs.Put.{Put}
-use Rattle.listing_lines.proofs.Places.{put-then}
+use Rattle.listing_lines.proofs.Puts.{put-then}
 use borrow.Author.Needs.{needs}
 use Rattle.listing_lines.proofs.put_field.Statement.{statement}
 use Rattle.listing_lines.proofs.put_field.Tie as tie

@@ -8,7 +8,7 @@ use lib.ListN.{take}
 use lib.Seq.{length-take-le}
 use Rattle.listing_lines.specs.Put.{Put}
 use Rattle.listing_lines.specs.Stream.{lastOf}
-use Rattle.listing_lines.proofs.Places.{put-none}
+use Rattle.listing_lines.proofs.Puts.{put-none}
 use Rattle.listing_lines.proofs.Stream.{last-is}
 use borrow.Author.Needs.{needs}
 use Rattle.listing_lines.proofs.put_last.Statement.{statement}

@@ -10,8 +10,8 @@ use borrow.Author.Needs.{needs}
 use Rattle.listing_lines.proofs.put_line.Statement.{statement}
 use Rattle.listing_lines.proofs.put_line.Tie as tie
 
-answer-by-requires : tie.Need-answer-by-requires
-answer-by-requires c κs = search needs
+answer-to-requires : tie.Need-answer-to-requires
+answer-to-requires c κs = search needs
 
 put-numbers-requires : tie.Need-put-numbers-requires
 put-numbers-requires c κs = search needs
@@ -24,7 +24,7 @@ returns c =
     let n = c .before .before in
     let a = n .before .before in
     let s = a .before .before in
-    subst (λ (l : List ℤ). Put (s .args .at) (textOf l) (s .args .bytes .now) (n .put-numbers .last .1 .0) (n .put-numbers .result) × (n .put-numbers .result ≤ s .args .at + 147)) (a .answer-by .ensures) (n .put-numbers .ensures)
+    subst (λ (l : List ℤ). Put (s .args .at) (textOf l) (s .args .bytes .now) (n .put-numbers .last .1 .0) (n .put-numbers .result) × (n .put-numbers .result ≤ s .args .at + 147)) (a .answer-to .ensures) (n .put-numbers .ensures)
 
 pub put-line-spec : {M : Type 1} → statement M
-put-line-spec = tie.close (tie.spec answer-by-requires put-numbers-requires same-length returns)
+put-line-spec = tie.close (tie.spec answer-to-requires put-numbers-requires same-length returns)

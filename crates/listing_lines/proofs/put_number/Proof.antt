@@ -8,7 +8,7 @@ use lib.IntN.{pos}
 use lib.Signed.{_≤ℤ_, _<ℤ_}
 use Rattle.integers.proofs.Number.{lit, arg, w-lit, less, not-less}
 use Rattle.listing_lines.specs.Put.{Put}
-use Rattle.listing_lines.proofs.Places.{put-then}
+use Rattle.listing_lines.proofs.Puts.{put-then}
 use Rattle.listing_lines.proofs.Sizes.{size-short, with-minus, without}
 use borrow.Author.Needs.{needs}
 use Rattle.listing_lines.proofs.put_number.Statement.{statement}

@@ -1,5 +1,5 @@
 -- `put_numbers` leaves seven numbers, a space between two and a line end behind the last.
--- Invariant: the numbers before place i are put, each with a space behind it, in at most 21 bytes each.
+-- Invariant: the numbers before number i are put, each with a space behind it, in at most 21 bytes each.
 use borrow.Author.Needs.{needs}
 use mathlib.Core.List.{List, [], _∷_, _++_}
 use mathlib.Core.Path.{_≡_, refl, sym, subst, _∙_}
@@ -8,10 +8,10 @@ use native.Mathlib.Omega.{arith}
 use lib.IntN.{ℤ, pos}
 use lib.ListN.{length, take, getD}
 use Rattle.integers.proofs.Cast.{read, back}
-use Rattle.frames.proofs.Held.{part-fits}
+use Rattle.integers.proofs.Arrays.{part-fits}
 use Rattle.listing_lines.specs.Decimal.{signedOf}
 use Rattle.listing_lines.specs.Put.{Put}
-use Rattle.listing_lines.proofs.Places.{put-none, put-then}
+use Rattle.listing_lines.proofs.Puts.{put-none, put-then}
 use Rattle.listing_lines.proofs.Texts.{spaced, spaced-more, seven}
 use Rattle.listing_lines.proofs.put_numbers.Statement.{statement}
 use Rattle.listing_lines.proofs.put_numbers.Tie as tie

@@ -4,13 +4,14 @@ use borrow.Author.Needs.{needs}
 use mathlib.Core.Path.{_≡_, sym, ap, _∙_}
 use Prim.Native.Nat.{ℕ, _-_, _*_, _≤_}
 use native.Mathlib.Omega.{arith}
-use lib.IntN.{ℤ, pos, natAbs, _-ℤ_}
+use lib.IntN.{pos}
 use mir.Syntax.{w64}
 use mir.Val.{SFits, toZ}
 use Rattle.integers.specs.Root.{IsRoot, rootOf}
+use Rattle.integers.proofs.Roots.{root-most}
 use Rattle.integers.proofs.Number.{of-unsigned}
 use Rattle.orbits.specs.Place.{minorOf}
-use Rattle.orbits.proofs.Bounds.{root-most, e-squared, minor-is}
+use Rattle.orbits.proofs.Bounds.{e-squared, minor-is}
 use Rattle.orbits.proofs.minor_axis.Statement.{statement}
 use Rattle.orbits.proofs.minor_axis.Tie as tie
 
@@ -35,7 +36,7 @@ root-requires c κs = search needs
 -- what a root r of the difference is
 module _ (c : tie.Start) (r : ℕ) (root : IsRoot (1000000000000000000 - 100 * c .args .e * c .args .e) r) where
   small : r ≤ 1000000000
-  small = root-most (1000000000000000000 - 100 * c .args .e * c .args .e) r (root .square) (omega arith)
+  small = root-most (1000000000000000000 - 100 * c .args .e * c .args .e) r 1000000000 (root .square) (omega arith)
 
   fits : SFits w64 (pos r)
   fits = let h = small in record { sfits = omega arith }

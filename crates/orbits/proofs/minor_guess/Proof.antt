@@ -1,9 +1,9 @@
 -- `minor_guess` overflows nowhere; any number will do.
 -- With e at most 9·10^7, w is at most 8.1·10^8, so that less than 10^9 is taken away.
 use borrow.Author.Needs.{needs}
-use Prim.Native.Nat.{ℕ, _*_, _/_, _≤_}
+use Prim.Native.Nat.{_*_, _/_, _≤_}
 use native.Mathlib.Omega.{arith}
-use Rattle.integers.proofs.Roots.{square-mono}
+use Rattle.integers.proofs.Squares.{square-mono}
 use Rattle.orbits.proofs.Bounds.{e-squared}
 use Rattle.orbits.proofs.minor_guess.Statement.{statement}
 use Rattle.orbits.proofs.minor_guess.Tie as tie

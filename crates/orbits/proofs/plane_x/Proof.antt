@@ -1,15 +1,14 @@
 -- `plane_x` is step 4's x': floor(a (cosine - 10 e) / 10^10).
 -- |cosine - 10 e| is at most 10 (10^8 + e), and a (10^8 + e) at most 50 au.
 use borrow.Author.Needs.{needs}
-use mathlib.Core.Path.{_≡_, ap, _∙_}
+use mathlib.Core.Path.{ap, _∙_}
 use Prim.Native.Nat.{ℕ, _+_, _*_, _^_, _<_, _≤_}
 use native.Mathlib.Omega.{arith}
 use lib.IntN.{ℤ, pos, natAbs, _-ℤ_, _*ℤ_}
-use Rattle.integers.specs.Range.{Within}
 use Rattle.integers.specs.Floor.{floorDiv}
 use Rattle.integers.proofs.Cast.{read, back-ok}
-use Rattle.integers.proofs.Number.{Num, arg, known, lit, w-lit, mul, mul-fits, mul<, mul-fits<, sub<, sub-fits<, with-bound}
-use Rattle.orbits.proofs.Bounds.{elliptic-small}
+use Rattle.integers.proofs.Number.{Num, arg, known, lit, w-lit, mul<, mul-fits<, sub<, sub-fits<}
+use Rattle.integers.proofs.Ranges.{range-most}
 use Rattle.orbits.proofs.plane_x.Statement.{statement}
 use Rattle.orbits.proofs.plane_x.Tie as tie
 
@@ -18,7 +17,7 @@ module _ (s : tie.Start) where
   n = natAbs (s .args .e)
 
   small : n ≤ 90000000
-  small = elliptic-small (s .args .e) (s .pre .0 .elliptic)
+  small = range-most 0 (s .args .e) (s .pre .0 .elliptic)
 
   e : Num (read (s .args .e)) (s .args .e) n
   e = arg (s .fits .e) (w-lit (s .args .e))

@@ -1,8 +1,8 @@
 -- `plane_y` is step 4's y': floor(a f / 10^10), then that ∘ the sine.
 -- By the numbers with bounds of `integers`.
 use borrow.Author.Needs.{needs}
-use mathlib.Core.Path.{_≡_, _∙_}
-use lib.IntN.{ℤ, _*ℤ_}
+use mathlib.Core.Path.{_∙_}
+use lib.IntN.{_*ℤ_}
 use Rattle.integers.specs.Floor.{floorDiv, unitProduct}
 use Rattle.integers.proofs.Cast.{read, back-ok}
 use Rattle.integers.proofs.Number.{Num, known, mul, mul-fits, floored, nums-fit}

@@ -1,45 +1,41 @@
--- `turn_on_date` gives the refusal of the date, else the answer of `turn_at_by` on its minute.
--- By the two cases of the date's moment; the constant's list is `sines`, by computation.
+-- `turn_on_date` gives the refusal of the date, else the answer of `turn_on` on its minute.
+-- By the two cases of the date's moment, whose minute lies in the interval.
 use borrow.Author.Needs.{needs}
-use mathlib.Core.Path.{_≡_, refl, sym, ap, _∙_}
-use mathlib.Core.Bool.{Bool, _&&_}
-use lib.IntN.{ℤ}
+use mathlib.Core.Bool.{_&&_}
+use mathlib.Core.Path.{_≡_, subst, sym, ap, _∙_}
+use lib.IntN.{pos}
 use Rattle.integers.proofs.Cast.{back}
-use Rattle.integers.proofs.Number.{known, w-read}
-use Rattle.angles.specs.Sines.{sines}
 use Rattle.dates.specs.declared.Moment.{Moment}
 use Rattle.dates.specs.declared.Moment.the-variants.{Accepted}
-use Rattle.dates.specs.Moment.{momentOf}
-use Rattle.orbits.specs.Answer.{isBody}
-use Rattle.orbits.proofs.Answers.{two-centuries}
-use Rattle.frames.specs.Answer.{inReach}
-use Rattle.places.specs.Answer.{isFrame, placeIf, placeOn, turnIf, turnOn}
+use Rattle.dates.specs.Moment.{Covers}
+use Rattle.tables.specs.Table.{interval1, momentAfter}
+use Rattle.tables.proofs.Laws.{after-inside, covered-read}
+use Rattle.frames.specs.Frame.{isFrame}
+use Rattle.frames.specs.Answer.{inLimits}
+use Rattle.places.specs.Answer.{turnIf, turnOn}
 use Rattle.places.proofs.turn_on_date.Statement.{statement}
 use Rattle.places.proofs.turn_on_date.Tie as tie
 
-moment-of-requires : tie.Need-moment-of-requires
-moment-of-requires c κs = search needs
-
-enum-known-minute : tie.Need-enum-known-minute
-enum-known-minute c = search needs
-
 -- the date's moment is that of this arm
-told : (c : tie.After-known-told) → momentOf (c .before .before .before .before .args .date) ≡ Accepted (c .before .minute .given .0 .0)
-told c = sym (c .before .before .before .moment-of .ensures) ∙ c .before .minute .given .1
+told : (c : tie.After-known-told) → momentAfter (c .before .before .before .before .args .date) (pos 0) ≡ Accepted (c .before .minute .given .0 .0)
+told c = sym (c .before .before .before .moment-after .ensures) ∙ c .before .minute .given .1
 
-turn-at-by-requires : tie.Need-turn-at-by-requires
-unfolding sines
-turn-at-by-requires c κs = (refl, record { minute = w-read (two-centuries _ _ (told (c .before)) .minute) tt })
+inside : (c : tie.After-known-told) → Covers interval1 (c .before .minute .given .0 .0)
+inside c = after-inside (c .before .before .before .before .args .date) (pos 0) (c .before .minute .given .0 .0) (told c)
 
-enum-known-refusal : tie.Need-enum-known-refusal
-enum-known-refusal c = search needs
+turn-on-requires : tie.Need-turn-on-requires
+turn-on-requires c κs =
+    (c .before .before .before .before .pre, subst (Covers interval1) (sym (covered-read (inside c))) (inside c))
 
 returns : tie.Need-returns
 returns c =
-    let t = c .before .before in
+    let t = c .before in
     let s = t .before .before .before .before in
-    let m = known (two-centuries _ _ (told t) .minute) tt .is in
-    c .turn-at-by .ensures ∙ (λ i. turnIf (isFrame (back (s .args .from) (s .fits .from) i) && isFrame (back (s .args .to) (s .fits .to) i)) (inReach (s .args .v)) (back (s .args .from) (s .fits .from) i) (back (s .args .to) (s .fits .to) i) (s .args .v) (m i))
+    let f = back (s .args .from) (s .fits .from) in
+    let g = back (s .args .to) (s .fits .to) in
+    let v = s .args .v in
+    c .turn-on .ensures
+    ∙ (λ i. turnIf (isFrame (f i) && isFrame (g i)) (inLimits v) (f i) (g i) v (covered-read (inside t) i))
     ∙ sym (ap (λ (o : Moment). turnOn o (s .args .from) (s .args .to) (s .args .v)) (told t))
 
 returns-2 : tie.Need-returns-2
@@ -47,15 +43,15 @@ returns-2 c =
     let r = c .before in
     let m = r .before .before in
     let s = m .before in
-    sym (ap (λ (o : Moment). turnOn o (s .args .from) (s .args .to) (s .args .v)) (sym (m .moment-of .ensures) ∙ r .refusal .given .1))
+    sym (ap (λ (o : Moment). turnOn o (s .args .from) (s .args .to) (s .args .v)) (sym (m .moment-after .ensures) ∙ r .refusal .given .1))
 
 pub turn-on-date-spec : {M : Type 1} → statement M
 turn-on-date-spec =
     tie.close
     (tie.spec
-    moment-of-requires
-    enum-known-minute
-    turn-at-by-requires
-    enum-known-refusal
+    (λ c κs. search needs)
+    (λ c. search needs)
+    turn-on-requires
+    (λ c. search needs)
     returns
     returns-2)

@@ -1,65 +1,48 @@
 -- `number_in` is the number in the bytes lent.
--- Invariant: n is the number in the first i bytes, so below 2^(8 i), and no product or sum leaves 64 bits.
+-- Invariant: what n and the bytes from byte i on stand for is the number; n is below 2^(8 i), so no product or sum leaves 64 bits.
 use borrow.Author.Needs.{needs}
-use mathlib.Core.Path.{_≡_, sym, ap, _∙_}
-use Prim.Native.Nat.{_+_, _*_, _-_, _^_, _≤_, _<_}
+use mathlib.Core.Path.{_≡_, refl}
+use Prim.Native.Nat.{_*_, _-_, _^_, _<_}
+use native.Mathlib.Numerals.{add-one}
 use native.Mathlib.Omega.{arith}
-use lib.ListN.{length, take}
-use Rattle.rows.specs.Bytes.{bigNumber}
-use lib.Seq.{take-all}
-use Rattle.rows.proofs.Numbers.{next-number, next-small, next-fits}
+use lib.ListN.{length, drop, drop-of-length-le}
+use lib.Seq.{drop-cons}
+use Rattle.rows.specs.Bytes.{bigFrom, bigNumber}
+use Rattle.rows.proofs.Numbers.{next-small, next-fits}
 use Rattle.rows.proofs.number_in.Statement.{statement}
 use Rattle.rows.proofs.number_in.Tie as tie
 
 abbrev Inv-loop : tie.InvT-loop
-Inv-loop bytes n₀ i₀ n i = (i ≤ length bytes) × (n ≡ bigNumber (take i bytes)) × (n < 2 ^ (8 * i))
+Inv-loop bytes n₀ i₀ n i = (bigFrom n (drop i bytes) ≡ bigNumber bytes) × (n < 2 ^ (8 * i))
 
 abbrev μ-loop : tie.MeasureT-loop
 μ-loop bytes n₀ i₀ n i = length bytes - i
 
-loop-holds : tie.Need-loop-holds Inv-loop μ-loop
-unfolding bigNumber
-loop-holds c = search needs
-
 mul-n : tie.Need-mul-n Inv-loop μ-loop
 mul-n c =
-    let at = c .before in
-    let v = at .loop .inv in
-    record { fits = omega (arith, next-fits (at .loop .n) 0 (at .loop .i) (v .2) (omega arith) (omega arith)) }
-
-shared-slice-read-wide : tie.Need-shared-slice-read-wide Inv-loop μ-loop
-shared-slice-read-wide c = search needs
-
-wide-requires : tie.Need-wide-requires Inv-loop μ-loop
-wide-requires c κs = search needs
+    let l = c .before .loop in
+    record { fits = omega (arith, next-fits (l .n) 0 (l .i) (l .inv .1) (omega arith) (omega arith)) }
 
 add-n : tie.Need-add-n Inv-loop μ-loop
 add-n c =
-    let at = c .before .before .before in
-    let v = at .loop .inv in
-    record { fits = next-fits (at .loop .n) (c .wide .result) (at .loop .i) (v .2) (omega arith) (c .wide .ensures .1) }
-
-add-i : tie.Need-add-i Inv-loop μ-loop
-add-i c = search needs
-
-loop-less : tie.Need-loop-less Inv-loop μ-loop
-loop-less c = search needs
+    let l = c .before .before .before .loop in
+    record { fits = next-fits (l .n) (c .wide .result) (l .i) (l .inv .1) (omega arith) (c .wide .ensures .1) }
 
 loop-again : tie.Need-loop-again Inv-loop μ-loop
+unfolding bigFrom
 loop-again c =
     let at = c .before .before .before in
-    let v = at .loop .inv in
-    let bs = at .before .before .args .bytes .now in
-    let i = at .loop .i in (
-      omega arith,
-      (λ k. v .1 k * 256 + c .wide .ensures .0 k) ∙ sym (next-number bs i (c .before .before .loop-test .taken)),
-      next-small (at .loop .n) (c .wide .result) i (v .2) (c .wide .ensures .1),
+    let l = at .loop in
+    let bytes = at .before .before .args .bytes .now in (
+      rw (add-one, c .wide .ensures .0, ← l .inv .0, drop-cons bytes (l .i) 0 (c .before .before .loop-test .taken)),
+      next-small (l .n) (c .wide .result) (l .i) (l .inv .1) (c .wide .ensures .1),
     )
 
 returns : tie.Need-returns Inv-loop μ-loop
+unfolding bigFrom
 returns c =
-    let bs = c .before .before .before .args .bytes .now in
-    c .before .loop .inv .1 ∙ ap bigNumber (take-all (c .before .loop .i) bs (omega arith))
+    let l = c .before .loop in
+    rw (← l .inv .0, drop-of-length-le (c .before .before .before .args .bytes .now) {i = l .i} (c .loop-test .left))
 
 pub number-in-spec : {M : Type 1} → statement M
 number-in-spec =
@@ -67,12 +50,12 @@ number-in-spec =
     (tie.spec
     Inv-loop
     μ-loop
-    loop-holds
+    (λ c. (refl, omega arith))
     mul-n
-    shared-slice-read-wide
-    wide-requires
+    (λ c. search needs)
+    (λ c κs. search needs)
     add-n
-    add-i
-    loop-less
+    (λ c. search needs)
+    (λ c. search needs)
     loop-again
     returns)

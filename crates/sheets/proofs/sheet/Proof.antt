@@ -2,23 +2,15 @@
 -- Its two tests are the definition's, and `fill` leaves the rows.
 use borrow.Author.Needs.{needs}
 use borrow.Author.Tests.{not-true, not-false}
-use mathlib.Core.Bool.{true, false}
-use mathlib.Core.List.{List}
+use mathlib.Core.Bool.{true}
 use mathlib.Core.Path.{_≡_, refl, sym, ap, _∙_}
-use Prim.Native.Nat.{ℕ, _*_, _≤_}
 use native.Mathlib.Omega.{arith}
-use lib.IntN.{ℤ, pos, natAbs}
+use lib.IntN.{ℤ, pos}
 use Rattle.integers.proofs.Cast.{read, back, back-ok, cast-fits}
 use Rattle.sheets.specs.Sheet.{answered, isSheet, sheetWritten}
 use Rattle.sheets.proofs.Laws.{no-sheet, sheet-short, sheet-by, Taken, taken}
 use Rattle.sheets.proofs.sheet.Statement.{statement}
 use Rattle.sheets.proofs.sheet.Tie as tie
-
-is-sheet-requires : tie.Need-is-sheet-requires
-is-sheet-requires c κs = search needs
-
-number-requires : tie.Need-number-requires
-number-requires c κs = search needs
 
 -- the definition, of the numbers that the machine reads back
 as-read : (s : tie.Start) → sheetWritten (s .args .start) (read (s .args .step)) (read (s .args .count)) (read (s .args .body)) (read (s .args .frame)) (s .args .bytes .now) ≡ sheetWritten (s .args .start) (s .args .step) (s .args .count) (s .args .body) (s .args .frame) (s .args .bytes .now)
@@ -40,13 +32,10 @@ within : (c : tie.Else1) → Taken (read (c .before .before .before .args .step)
 within c = taken _ _ (is c)
 
 cast-n : tie.Need-cast-n
-cast-n c = let t = within c in cast-fits refl (t .count-low) (omega (arith, t .count-small))
+cast-n c = let t = within c in cast-fits refl (t .count-range .low) (omega (arith, t .count-small))
 
 mul-if2 : tie.Need-mul-if2
 mul-if2 c = let t = within c in record { fits = omega (arith, t .count-small) }
-
-number-requires-2 : tie.Need-number-requires-2
-number-requires-2 c κs = search needs
 
 returns-2 : tie.Need-returns-2
 returns-2 c =
@@ -58,16 +47,14 @@ returns-2 c =
 
 fill-requires : tie.Need-fill-requires
 fill-requires c κs =
-    let t = within (c .before .before) in
-    ((t .count-small, c .before .if2 .left), t .step-small)
-
-same-length : tie.Need-same-length
-same-length c = search needs
+    let second = c .before .before .before in
+    let t = within (second .before) in
+    (c .before .before .sines .ensures, ((t .count-small, second .if2 .left), t .step-small))
 
 returns-3 : tie.Need-returns-3
 returns-3 c =
     let filled = c .before .before in
-    let second = filled .before .before in
+    let second = filled .before .before .before .before in
     let first = second .before in
     let s = first .before .before .before in
     (λ i. (answered (pos 0) (filled .fill .ensures .1 i), filled .fill .ensures .0 i))
@@ -78,13 +65,14 @@ pub sheet-spec : {M : Type 1} → statement M
 sheet-spec =
     tie.close
     (tie.spec
-    is-sheet-requires
-    number-requires
+    (λ c κs. search needs)
+    (λ c κs. search needs)
     returns
     cast-n
     mul-if2
-    number-requires-2
+    (λ c κs. search needs)
     returns-2
+    (λ c κs. search needs)
     fill-requires
-    same-length
+    (λ c. search needs)
     returns-3)

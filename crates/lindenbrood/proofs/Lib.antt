@@ -1,0 +1,2 @@
+-- The law that the exported solver cites.
+pub mod Solved

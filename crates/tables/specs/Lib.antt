@@ -1,0 +1,2 @@
+-- What the contracts of `tables` cite: Table 1's rows and interval.
+pub mod Table
