@@ -74,7 +74,8 @@
  *        under 1000000)
  *    7   the eccentricity is under 0 or over 90000000      zero
  *    8   the buffer is shorter than the rows asked for     buffer untouched, no good row
- *    9   the bytes are no row, or the fields make none     zeros; a buffer untouched
+ *    9   the bytes are no row (fewer than 38 are none),    zeros; a buffer untouched
+ *        or the fields to be written make none
  *   10   the sheet's step is not 1 to 1000000, or its      buffer untouched, no good row
  *        count is not 0 to 400
  *

@@ -16,10 +16,10 @@ use Rattle.integers.specs.Triple.{at, PartsWithin}
 use Rattle.integers.proofs.Floor.{floor-least}
 use Rattle.integers.proofs.Ends.{abs-less, abs-more}
 use Rattle.integers.proofs.Triples.{parts-more}
-use Rattle.frames.specs.Vector.{squaresOf, lengthOf, overLength, unitOf, crossPart, crossOf}
+use Rattle.vectors.specs.Vector.{squaresOf, lengthOf, overLength, unitOf, crossPart, crossOf}
 use Rattle.frames.specs.Range.{NearEcliptic}
 use Rattle.frames.specs.Frame.{onEcliptic, axisCross}
-use Rattle.frames.proofs.Lengths.{squares-fit, length-is, part-below-length}
+use Rattle.vectors.proofs.Lengths.{squares-fit, length-is, part-below-length}
 use Rattle.frames.proofs.Rows.{axisNumbers, axis-is, ecliptic-small, across-small}
 
 -- ---- one of x and y is at least 7/10 of the length

@@ -15,18 +15,19 @@ use Rattle.integers.proofs.Number.{w-floor-any, w-most}
 use Rattle.integers.proofs.Ring.{abs-neg}
 use Rattle.integers.specs.Triple.{at, PartsWithin}
 use Rattle.integers.proofs.Triples.{parts-more}
-use Rattle.frames.specs.Vector.{dotOf, applied, wayOf, squaresOf, lengthOf, overLength, unitOf, crossOf}
-use Rattle.frames.specs.Range.{TurnFits, NoLonger, NearEcliptic, EarthFits}
+use Rattle.vectors.specs.Vector.{dotOf, applied, wayOf, squaresOf, lengthOf, overLength, unitOf, crossOf}
+use Rattle.vectors.specs.Range.{TurnFits, NoLonger}
+use Rattle.frames.specs.Range.{NearEcliptic, EarthFits}
 use Rattle.frames.specs.Frame.{KnownFrame, HasRows, geiRows, hciRows, solarAxis, onEcliptic, axisCross, heeOf, heeRows, heeqOf, heeqRows, rotationOf, haeTurned, turnedBetween}
 use Rattle.frames.specs.Rtn.{rtnOf, rtnRows}
 use Rattle.frames.proofs.Choice.{past-hae}
-use Rattle.frames.proofs.Lengths.{squares-fit}
+use Rattle.vectors.proofs.Lengths.{squares-fit}
 use Rattle.frames.proofs.Rows.{geiNumbers, gei-is, hciNumbers, hci-is, axis-is, ecliptic-small, across-small}
 use Rattle.frames.proofs.Earth.{earth-long, ecliptic-long, across-long}
-use Rattle.frames.proofs.Dots.{dot-comm}
-use Rattle.frames.proofs.Norms.{NearlyUnit, Stretches, stretches}
-use Rattle.frames.proofs.Turns.{no-longer-than, longer, turn-fits, turned-long}
-use Rattle.frames.proofs.Crosses.{unit-long, unit-dot, cross-long, cross-left, cross-right}
+use Rattle.vectors.proofs.Dots.{dot-comm}
+use Rattle.vectors.proofs.Norms.{NearlyUnit, Stretches, stretches}
+use Rattle.vectors.proofs.Turns.{no-longer-than, longer, turn-fits, turned-long}
+use Rattle.vectors.proofs.Crosses.{unit-long, unit-dot, cross-long, cross-left, cross-right}
 
 pub stretches-more : {c d : ℕ} (m : List (List ℤ)) → Stretches c m → c ≤ d → Stretches d m
 stretches-more m s l =

@@ -10,9 +10,9 @@ use Rattle.integers.proofs.Triples.{three, parts-more}
 use Rattle.angles.specs.Unit.{oneTurn}
 use Rattle.angles.specs.Entry.{factorial, part, whole, term, plusTerms, minusTerms, entry}
 use Rattle.angles.specs.Sine.{quarterSine, halfSine, sineOf, cosineOf}
-use Rattle.frames.specs.Vector.{rowAt, unitOf}
+use Rattle.vectors.specs.Vector.{rowAt, unitOf}
 use Rattle.frames.specs.Frame.{geiRows, hciRows, solarAxis, onEcliptic, axisCross}
-use Rattle.frames.proofs.Lengths.{squares-fit, unit-small, cross-within}
+use Rattle.vectors.proofs.Lengths.{squares-fit, unit-small, cross-within}
 
 -- ---- the numbers of GEI, HCI and the solar axis
 abbrev pub geiNumbers : List (List ℤ)

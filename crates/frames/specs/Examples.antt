@@ -11,7 +11,7 @@ use Rattle.angles.specs.Entry.{factorial, part, whole, term, plusTerms, minusTe
 use Rattle.angles.specs.Sine.{quarterSine, halfSine, sineOf, cosineOf}
 use Rattle.refusals.specs.declared.Refusal.the-variants.{TooFar, NoDirection}
 use Rattle.frames.specs.declared.Turned.the-variants.{Vector, Refused}
-use Rattle.frames.specs.Vector.{rowAt, applied, lengthOf, unitOf, crossOf}
+use Rattle.vectors.specs.Vector.{rowAt, applied, lengthOf, unitOf, crossOf}
 use Rattle.frames.specs.Frame.{geiRows, hciRows, solarAxis}
 use Rattle.frames.specs.Answer.{asCoordinates, turnedStatus}
 use Rattle.frames.specs.Rtn.{rtnRows, rtnTurned, toRtn, fromRtn}

@@ -8,7 +8,7 @@ use Rattle.integers.specs.Triple.{at}
 use Rattle.integers.specs.Floor.{unitProduct}
 use Rattle.integers.specs.Sign.{same}
 use Rattle.angles.specs.Sine.{sineOf, cosineOf}
-use Rattle.frames.specs.Vector.{rowAt, applied, wayOf, unitOf, crossOf}
+use Rattle.vectors.specs.Vector.{rowAt, applied, wayOf, unitOf, crossOf}
 
 -- "1 HAE of J2000; 2 GEI of J2000; 3 HCI; 4 HEE; 5 HEEQ", and refusal 4's test of one
 abbrev pub KnownFrame : ℤ → Type 0

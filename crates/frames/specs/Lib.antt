@@ -1,7 +1,6 @@
--- What the contracts of `frames` cite: vectors and rotations, their ranges, the frames, the answer, RTN.
-pub mod Vector
-pub mod Range
+-- What the contracts of `frames` cite: the frames, what they ask of the Earth's place, the answer, RTN.
 pub mod Frame
+pub mod Range
 pub mod Answer
 pub mod Rtn
 pub mod Examples

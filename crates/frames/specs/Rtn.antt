@@ -7,7 +7,7 @@ use lib.IntN.{ℤ}
 use Rattle.refusals.specs.declared.Refusal.the-variants.{TooFar, NoDirection}
 use Rattle.frames.specs.declared.Turned.{Turned}
 use Rattle.frames.specs.declared.Turned.the-variants.{Vector, Refused}
-use Rattle.frames.specs.Vector.{applied, wayOf, lengthOf, unitOf, crossOf}
+use Rattle.vectors.specs.Vector.{applied, wayOf, lengthOf, unitOf, crossOf}
 use Rattle.frames.specs.Frame.{axisCross}
 use Rattle.frames.specs.Answer.{inLimits, asCoordinates}
 

@@ -1,14 +1,10 @@
 // Sun-centred frames: rotations of three rows, vectors turned between frames, and RTN at a spacecraft's place.
 // In a rotation 10^9 stands for one. Lengths are counts of 10^-7 au. The Earth's place in HAE is the caller's.
 ghost use mathlib.Core.Path.{_≡_};
-ghost use Prim.Native.Nat.{_≤_};
-ghost use lib.IntN.{pos, natAbs, _*ℤ_};
-ghost use lib.Signed.{_<ℤ_};
-ghost use Rattle.integers.specs.Range.{Within};
 ghost use Rattle.integers.specs.Triple.{PartsWithin};
-ghost use Rattle.integers.specs.Floor.{floorDiv};
-ghost use Rattle.frames.specs.Range.{DotFits, TurnFits, NoLonger, EarthFits};
-ghost use Rattle.frames.specs.Vector.{dotOf, applied, columnOf, transposed, wayOf, squareOf, lengthOf, overLength, unitOf, crossPart, crossOf};
+ghost use Rattle.vectors.specs.Range.{NoLonger};
+ghost use Rattle.frames.specs.Range.{EarthFits};
+ghost use Rattle.vectors.specs.Vector.{applied};
 ghost use Rattle.frames.specs.Frame.{KnownFrame, isFrame, HasRows, needsEarth, geiRows, hciRows, solarAxis, onEcliptic, heeRows, heeqRows, rotationOf, haeTurned, turnedBetween};
 ghost use Rattle.frames.specs.Answer.{partInLimits, inLimits, asCoordinates};
 ghost use Rattle.frames.specs.Rtn.{rtnOf, rtnTurned, toRtn, fromRtn};
@@ -40,121 +36,6 @@ const HCI: [[i64; 3]; 3] = [
     [-961_523_745, 244_017_288, 126_198_921],
     [122_321_270, -31_042_919, 992_004_572],
 ];
-
-// The sum of the products of two triples.
-pub fn dot(a: [i64; 3], v: [i64; 3]) -> i64
-    requires { ⌜ DotFits a v ⌝ }
-    ensures { λ r. ⌜ r ≡ dotOf a v ⌝ }
-{
-    a[0] * v[0] + a[1] * v[1] + a[2] * v[2]
-}
-
-// A vector turned by the rows of m.
-pub fn applied(m: [[i64; 3]; 3], v: [i64; 3]) -> [i64; 3]
-    requires { ⌜ TurnFits m v ⌝ }
-    ensures { λ r. ⌜ r ≡ applied m v ⌝ }
-{
-    [
-        integers::end_turn(dot(m[0], v)),
-        integers::end_turn(dot(m[1], v)),
-        integers::end_turn(dot(m[2], v)),
-    ]
-}
-
-// The index is a parameter, so that the exchange is one rule for all columns.
-fn column(m: [[i64; 3]; 3], j: usize) -> [i64; 3]
-    requires { ⌜ j ≤ 2 ⌝ }
-    ensures { λ r. ⌜ r ≡ columnOf m j ⌝ }
-{
-    [m[0][j], m[1][j], m[2][j]]
-}
-
-// Rows and columns exchanged.
-pub fn transposed(m: [[i64; 3]; 3]) -> [[i64; 3]; 3]
-    ensures { λ r. ⌜ r ≡ transposed m ⌝ }
-{
-    [column(m, 0), column(m, 1), column(m, 2)]
-}
-
-// The rows there, or their exchange back.
-fn way(m: [[i64; 3]; 3], back: bool) -> [[i64; 3]; 3]
-    ensures { λ r. ⌜ r ≡ wayOf back m ⌝ }
-{
-    if back {
-        return transposed(m);
-    }
-    m
-}
-
-// The square of a part. Three of them add up to less than 2^64, though not to less than 2^63.
-fn square(z: i64) -> u64
-    requires { ⌜ Within 2000000000 z ⌝ }
-    ensures { λ r. ⌜ r ≡ squareOf z ⌝ }
-{
-    (z * z) as u64
-}
-
-// L, the whole root of the sum of squares.
-pub fn length(v: [i64; 3]) -> u64
-    requires { ⌜ PartsWithin 2000000000 v ⌝ }
-    ensures { λ r. ⌜ r ≡ lengthOf v ⌝ }
-    ensures { λ r. ⌜ r ≤ 4294967295 ⌝ }
-{
-    integers::root(square(v[0]) + square(v[1]) + square(v[2]))
-}
-
-// One part over the length.
-fn part_over(z: i64, l: i64) -> i64
-    requires { ⌜ Within 2000000000 z ⌝ }
-    requires { ⌜ pos 0 <ℤ l ⌝ }
-    ensures { λ r. ⌜ r ≡ floorDiv (z *ℤ pos 1000000000) (natAbs l) ⌝ }
-{
-    integers::floor_div(z * 1_000_000_000, l)
-}
-
-// A vector over a length, 10^9 standing for one; zeros where the length is 0.
-fn over_length(l: u64, v: [i64; 3]) -> [i64; 3]
-    requires { ⌜ l ≤ 4294967295 ⌝ }
-    requires { ⌜ PartsWithin 2000000000 v ⌝ }
-    ensures { λ r. ⌜ r ≡ overLength l v ⌝ }
-{
-    if l == 0 {
-        return [0, 0, 0];
-    }
-    let d = l as i64;
-    [part_over(v[0], d), part_over(v[1], d), part_over(v[2], d)]
-}
-
-// The unit vector of v.
-pub fn unit(v: [i64; 3]) -> [i64; 3]
-    requires { ⌜ PartsWithin 2000000000 v ⌝ }
-    ensures { λ r. ⌜ r ≡ unitOf v ⌝ }
-{
-    over_length(length(v), v)
-}
-
-// The part of a cross product that goes by parts i and j.
-fn cross_part(a: [i64; 3], b: [i64; 3], i: usize, j: usize) -> i64
-    requires { ⌜ PartsWithin 1000000000 a ⌝ }
-    requires { ⌜ PartsWithin 1000000000 b ⌝ }
-    requires { ⌜ (i ≤ 2) × (j ≤ 2) ⌝ }
-    ensures { λ r. ⌜ r ≡ crossPart a b i j ⌝ }
-{
-    integers::floor_div(a[i] * b[j] - a[j] * b[i], 1_000_000_000)
-}
-
-// The cross product of two vectors of which 10^9 stands for one.
-pub fn cross(a: [i64; 3], b: [i64; 3]) -> [i64; 3]
-    requires { ⌜ PartsWithin 1000000000 a ⌝ }
-    requires { ⌜ PartsWithin 1000000000 b ⌝ }
-    ensures { λ r. ⌜ r ≡ crossOf a b ⌝ }
-{
-    [
-        cross_part(a, b, 1, 2),
-        cross_part(a, b, 2, 0),
-        cross_part(a, b, 0, 1),
-    ]
-}
 
 // The rows that turn HAE into GEI of J2000.
 pub fn gei() -> [[i64; 3]; 3]
@@ -189,7 +70,7 @@ pub fn hee(earth: [i64; 3]) -> [[i64; 3]; 3]
     requires { ⌜ PartsWithin 1000000000 earth ⌝ }
     ensures { λ r. ⌜ r ≡ heeRows earth ⌝ }
 {
-    let x = unit(on_ecliptic(earth));
+    let x = vectors::unit(on_ecliptic(earth));
     [x, [0 - x[1], x[0], 0], [0, 0, 1_000_000_000]]
 }
 
@@ -199,8 +80,8 @@ pub fn heeq(earth: [i64; 3]) -> [[i64; 3]; 3]
     ensures { λ r. ⌜ r ≡ heeqRows earth ⌝ }
 {
     let axis = solar_axis();
-    let y = unit(cross(axis, unit(earth)));
-    [cross(y, axis), y, axis]
+    let y = vectors::unit(vectors::cross(axis, vectors::unit(earth)));
+    [vectors::cross(y, axis), y, axis]
 }
 
 // The rows that turn HAE into frame 2, 3, 4 or 5.
@@ -245,7 +126,7 @@ fn hae_turned(back: bool, frame: i64, earth: [i64; 3], v: [i64; 3]) -> [i64; 3]
     if frame == 1 {
         return v;
     }
-    applied(way(rotation(frame, earth), back), v)
+    vectors::applied(vectors::way(rotation(frame, earth), back), v)
 }
 
 // A vector of one frame in another, by way of HAE. A frame to itself leaves it unchanged.
@@ -298,7 +179,7 @@ fn rtn(radial: [i64; 3], tangential: [i64; 3]) -> [[i64; 3]; 3]
     requires { ⌜ PartsWithin 1000000000 tangential ⌝ }
     ensures { λ r. ⌜ r ≡ rtnOf radial tangential ⌝ }
 {
-    [radial, tangential, cross(radial, tangential)]
+    [radial, tangential, vectors::cross(radial, tangential)]
 }
 
 // A vector there or back at the place r. Refusal 5 comes before 6, so that no length is taken of a place too far.
@@ -311,18 +192,18 @@ fn rtn_turned(back: bool, r: [i64; 3], v: [i64; 3]) -> Turned
     if !in_limits(r) {
         return Turned::Refused(Refusal::TooFar);
     }
-    let l = length(r);
+    let l = vectors::length(r);
     if l < 100_000 {
         return Turned::Refused(Refusal::NoDirection);
     }
-    let radial = over_length(l, r);
-    let across = cross(solar_axis(), radial);
-    let k = length(across);
+    let radial = vectors::over_length(l, r);
+    let across = vectors::cross(solar_axis(), radial);
+    let k = vectors::length(across);
     if k < 1_000_000 {
         return Turned::Refused(Refusal::NoDirection);
     }
-    let rows = rtn(radial, over_length(k, across));
-    Turned::Vector(as_coordinates(applied(way(rows, back), v)))
+    let rows = rtn(radial, vectors::over_length(k, across));
+    Turned::Vector(as_coordinates(vectors::applied(vectors::way(rows, back), v)))
 }
 
 // A vector of HAE as R, T, N parts at a spacecraft's place r in HAE.

@@ -22,7 +22,7 @@ use Rattle.tables.proofs.Laws.{after-inside, after-refused}
 use Rattle.frames.specs.declared.Coordinates.{Coordinates}
 use Rattle.frames.specs.Frame.{KnownFrame, isFrame, turnedBetween}
 use Rattle.frames.specs.Answer.{asCoordinates}
-use Rattle.frames.proofs.Turns.{part-no-longer}
+use Rattle.vectors.proofs.Turns.{part-no-longer}
 use Rattle.projector.specs.Au.{CountsExact}
 use Rattle.places.specs.declared.PlaceAnswer.the-variants.{Found, Refused}
 use Rattle.places.specs.Answer.{haeAt, earthAt, placeIf, placeOn, placeAfter}

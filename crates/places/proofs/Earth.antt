@@ -19,8 +19,9 @@ use Rattle.tables.specs.Table.{Body, interval1, momentAfter}
 use Rattle.tables.proofs.Laws.{after-inside}
 use Rattle.orbits.proofs.Rows.{table-place-within}
 use Rattle.orbits.proofs.Earth.{earth-clear}
-use Rattle.frames.specs.Vector.{lengthOf}
-use Rattle.frames.specs.Range.{NoLonger, NearEcliptic, EarthFits}
+use Rattle.vectors.specs.Vector.{lengthOf}
+use Rattle.vectors.specs.Range.{NoLonger}
+use Rattle.frames.specs.Range.{NearEcliptic, EarthFits}
 use Rattle.frames.specs.Frame.{KnownFrame, needsEarth, onEcliptic, axisCross, turnedBetween}
 use Rattle.frames.proofs.Choice.{earth-free}
 use Rattle.frames.proofs.Earth.{earth-long, ecliptic-long, across-long}

@@ -21,7 +21,7 @@ use Rattle.dates.specs.Moment.{tested, momentAt, momentStatus, momentMinute}
 use Rattle.tables.specs.Table.{table1, tableRow, momentAfter}
 use Rattle.orbits.specs.Elements.{elementIn, elementsAt, meanAnomalyOf, inclinationOf}
 use Rattle.frames.specs.declared.Coordinates.{Coordinates}
-use Rattle.frames.specs.Vector.{lengthOf, unitOf, crossOf, applied}
+use Rattle.vectors.specs.Vector.{lengthOf, unitOf, crossOf, applied}
 use Rattle.frames.specs.Frame.{hciRows, solarAxis}
 use Rattle.frames.specs.Answer.{asCoordinates, turnedStatus, turnedVector}
 use Rattle.frames.specs.Rtn.{rtnRows, rtnTurned, toRtn}

@@ -9,8 +9,8 @@ use mir.Val.{ofZ}
 use Rattle.integers.proofs.Same.{same-by-bits, other-by-bits}
 use Rattle.integers.proofs.Cast.{back}
 use Rattle.integers.proofs.Number.{w-fits, w-lit}
-use Rattle.frames.specs.Vector.{applied, wayOf}
-use Rattle.frames.specs.Range.{TurnFits}
+use Rattle.vectors.specs.Vector.{applied, wayOf}
+use Rattle.vectors.specs.Range.{TurnFits}
 use Rattle.frames.specs.Frame.{HasRows, rotationOf, haeTurned}
 use Rattle.frames.proofs.Choice.{past-hae}
 use Rattle.frames.proofs.Frames.{hae-turn-fits}

@@ -9,7 +9,7 @@ use Rattle.integers.proofs.Cast.{read}
 use Rattle.integers.proofs.Ring.{zero-minus}
 use Rattle.integers.proofs.Number.{Num, known, lit, sub-fits, sub}
 use Rattle.integers.specs.Triple.{at}
-use Rattle.frames.specs.Vector.{unitOf}
+use Rattle.vectors.specs.Vector.{unitOf}
 use Rattle.integers.specs.Triple.{PartsWithin}
 use Rattle.frames.specs.Frame.{onEcliptic, heeOf, heeRows}
 use Rattle.integers.proofs.Triples.{parts-more}

@@ -3,7 +3,7 @@
 use borrow.Author.Needs.{needs}
 use mathlib.Core.Path.{_≡_, subst, sym, ap, _∙_}
 use mathlib.Core.List.{[], _∷_}
-use Rattle.frames.specs.Vector.{unitOf, crossOf}
+use Rattle.vectors.specs.Vector.{unitOf, crossOf}
 use Rattle.integers.specs.Triple.{PartsWithin}
 use Rattle.frames.specs.Frame.{axisCross, heeqRows}
 use Rattle.integers.proofs.Triples.{parts-more}

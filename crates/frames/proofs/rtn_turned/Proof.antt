@@ -10,9 +10,9 @@ use native.Mathlib.Omega.{arith}
 use lib.Dec.{leb}
 use lib.IntN.{ℤ}
 use Rattle.frames.specs.declared.Turned.the-variants.{Vector}
-use Rattle.frames.specs.Vector.{applied, wayOf, lengthOf, overLength, unitOf, crossOf}
+use Rattle.vectors.specs.Vector.{applied, wayOf, lengthOf, overLength, unitOf, crossOf}
 use Rattle.integers.specs.Triple.{PartsWithin}
-use Rattle.frames.specs.Range.{TurnFits}
+use Rattle.vectors.specs.Range.{TurnFits}
 use Rattle.frames.specs.Answer.{inLimits, asCoordinates}
 use Rattle.frames.specs.Frame.{axisCross}
 use Rattle.frames.specs.Rtn.{rtnOf, rtnRows, rtnTurned}

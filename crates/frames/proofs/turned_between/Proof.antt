@@ -7,8 +7,9 @@ use lib.IntN.{ℤ}
 use Rattle.integers.proofs.Same.{same-by-bits, other-by-bits}
 use Rattle.integers.proofs.Cast.{read, back}
 use Rattle.frames.specs.Frame.{haeTurned, turnedBetween}
-use Rattle.frames.specs.Range.{NoLonger, EarthFits}
-use Rattle.frames.proofs.Turns.{no-longer-than}
+use Rattle.vectors.specs.Range.{NoLonger}
+use Rattle.frames.specs.Range.{EarthFits}
+use Rattle.vectors.proofs.Turns.{no-longer-than}
 use Rattle.frames.proofs.Frames.{hae-turned-long}
 use Rattle.frames.proofs.turned_between.Statement.{statement}
 use Rattle.frames.proofs.turned_between.Tie as tie
