@@ -23,11 +23,11 @@ use Rattle.refusals.proofs.Numbers.{number-is}
 use Rattle.rows.specs.declared.ReadAnswer.the-variants.{Found, Refused}
 use Rattle.rows.specs.declared.Row.{Row}
 use Rattle.rows.specs.declared.Written.the-variants.{Done, Refused as NotWritten}
-use Rattle.rows.specs.Bytes.{bigEndian}
-use Rattle.rows.specs.Layout.{bytesOf, numbersIn}
+use Rattle.layouts.specs.Bytes.{bigEndian}
+use Rattle.layouts.specs.Layout.{bytesOf, numbersIn}
 use Rattle.rows.specs.Fields.{rowSize, rowLength, rowVersion, widths1, rowNumbers, rowFrom, bareRow, rowBytes, refusedBytes, isRow, areRow, statusAt}
 use Rattle.rows.specs.Answer.{foundIf, readOf, writtenIf, written}
-use Rattle.rows.proofs.Layouts.{numbers-back, bytes-back}
+use Rattle.layouts.proofs.Layouts.{numbers-back, bytes-back}
 use Rattle.rows.proofs.Taken.{Counts, row-held, byte-is}
 
 -- ---- a row's bytes, and a refused row's

@@ -22,9 +22,9 @@ use Rattle.integers.proofs.Same.{same-eq}
 use Rattle.dates.specs.Moment.{covers}
 use Rattle.tables.specs.Table.{Body, isBody, interval1}
 use Rattle.rows.specs.declared.Row.{Row}
-use Rattle.rows.specs.Layout.{areZeros}
+use Rattle.layouts.specs.Layout.{areZeros}
 use Rattle.rows.specs.Fields.{widths1, rowNumbers, isFrame1, isGood, isRefused, isRow}
-use Rattle.rows.proofs.Layouts.{Holds, AllHeld, none, more}
+use Rattle.layouts.proofs.Layouts.{Holds, AllHeld, none, more}
 
 -- ---- a number in eight bytes, and one from 0 to 255 in one
 holds-64 : (z : ℤ) → SFits w64 z → Holds 8 z

@@ -12,7 +12,7 @@ use Rattle.rows.specs.declared.ReadAnswer.the-variants.{Found, Refused}
 use Rattle.rows.specs.declared.Row.{Row}
 use Rattle.rows.specs.declared.Written.{Written}
 use Rattle.rows.specs.declared.Written.the-variants.{Done, Refused as NotWritten}
-use Rattle.rows.specs.Layout.{numbersIn}
+use Rattle.layouts.specs.Layout.{numbersIn}
 use Rattle.rows.specs.Fields.{rowSize, widths1, bareRow, rowBytes, rowFrom, isRow, areRow}
 
 -- by whether the bytes are a row: the row, or refusal 9

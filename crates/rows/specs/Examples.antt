@@ -9,8 +9,8 @@ use Rattle.rows.specs.declared.ReadAnswer.{ReadAnswer}
 use Rattle.rows.specs.declared.ReadAnswer.the-variants.{Found, Refused}
 use Rattle.rows.specs.declared.Row.{Row}
 use Rattle.rows.specs.declared.Written.the-variants.{Done, Refused as NotWritten}
-use Rattle.rows.specs.Bytes.{bigEndian, bigFrom, fieldBytes}
-use Rattle.rows.specs.Layout.{bytesOf, numbersIn}
+use Rattle.layouts.specs.Bytes.{bigEndian, bigFrom, fieldBytes}
+use Rattle.layouts.specs.Layout.{bytesOf, numbersIn}
 use Rattle.rows.specs.Fields.{goodRow, bareRow, rowBytes, refusedBytes, isGood, isRefused, isRow, areRow, statusAt}
 use Rattle.rows.specs.Answer.{readOf, readStatus, readRow, written}
 

@@ -9,7 +9,7 @@ use Rattle.integers.specs.Sign.{same}
 use Rattle.dates.specs.Moment.{covers}
 use Rattle.tables.specs.Table.{isBody, interval1}
 use Rattle.rows.specs.declared.Row.{Row}
-use Rattle.rows.specs.Layout.{bytesOf, areZeros}
+use Rattle.layouts.specs.Layout.{bytesOf, areZeros}
 
 -- "A row is 38 bytes"
 abbrev pub rowSize : ℕ

@@ -1,13 +1,11 @@
-// The bytes of a row: written from its fields, and read. A layout is the list of its fields' widths, and one writer and one reader go
-// by it, whatever it is. One function says which fields are a row's.
+// The bytes of a row: written from its fields, and read. Its layout is a list of widths, by which `layouts` writes and reads. One
+// function says which fields are a row's.
 ghost use mathlib.Core.Path.{_≡_};
 ghost use mathlib.Core.List.{_++_};
-ghost use Prim.Native.Nat.{_%_, _≤_, _<_};
-ghost use lib.Dec.{T};
+ghost use Prim.Native.Nat.{_≤_, _<_};
 ghost use lib.ListN.{length, drop};
 ghost use Rattle.refusals.specs.Number.{numberOf};
-ghost use Rattle.rows.specs.Bytes.{bigEndian, bigNumber};
-ghost use Rattle.rows.specs.Layout.{total, narrow, bytesOf, numbersIn, areZeros};
+ghost use Rattle.layouts.specs.Layout.{numbersIn};
 ghost use Rattle.rows.specs.Fields.{rowSize, widths1, rowNumbers, rowFrom, goodRow, rowBytes, refusedBytes, isGood, isRefused, isRow, areRow};
 ghost use Rattle.rows.specs.Answer.{readOf, written};
 use refusals::Refusal;
@@ -48,94 +46,6 @@ pub enum Written {
     Refused(Refusal),
 }
 
-// The lowest byte of n.
-fn low_byte(n: u64) -> u8
-    ensures { λ r. ⌜ r ≡ n % 256 ⌝ }
-{
-    (n % 256) as u8
-}
-
-// A byte among numbers of 64 bits. A function, since what it returns is then known to be below 256.
-fn wide(byte: u8) -> u64
-    ensures { λ r. ⌜ (r ≡ byte) × (r < 256) ⌝ }
-{
-    byte as u64
-}
-
-// The low bytes of n, as many as are lent, the high one first. They are put from the end on.
-fn put_number(n: u64, bytes: &mut [u8])
-    ensures { λ _. ⌜ now (bytes .exit) ≡ bigEndian (length (now (bytes .entry))) n ⌝ }
-{
-    let mut rest = n;
-    let mut i = bytes.len();
-    while 0 < i {
-        i -= 1;
-        bytes[i] = low_byte(rest);
-        rest = rest / 256;
-    }
-}
-
-// The number in the bytes that are lent, the high one first.
-fn number_in(bytes: &[u8]) -> u64
-    requires { ⌜ length (now bytes) ≤ 8 ⌝ }
-    ensures { λ r. ⌜ r ≡ bigNumber (now (bytes .entry)) ⌝ }
-{
-    let mut n = 0;
-    let mut i = 0;
-    while i < bytes.len() {
-        n = n * 256 + wide(bytes[i]);
-        i += 1;
-    }
-    n
-}
-
-// The numbers into fields of these widths, one after the other from the first byte on. Bytes after them stay.
-fn put_numbers(widths: &[usize], numbers: &[i64], bytes: &mut [u8])
-    requires { ⌜ length (now widths) ≡ length (now numbers) ⌝ }
-    requires { ⌜ total (now widths) ≤ length (now bytes) ⌝ }
-    ensures { λ _. ⌜ now (bytes .exit) ≡ bytesOf (now (widths .entry)) (now (numbers .entry)) ++ drop (total (now (widths .entry))) (now (bytes .entry)) ⌝ }
-{
-    let mut at = 0;
-    let mut i = 0;
-    while i < widths.len() {
-        let end = at + widths[i];
-        put_number(integers::bits_of(numbers[i]), &mut bytes[at..end]);
-        at = end;
-        i += 1;
-    }
-}
-
-// The numbers that stand in fields of these widths, one after the other from the first byte on.
-fn numbers_in(widths: &[usize], bytes: &[u8], numbers: &mut [i64])
-    requires { ⌜ length (now widths) ≡ length (now numbers) ⌝ }
-    requires { ⌜ total (now widths) ≤ length (now bytes) ⌝ }
-    requires { ⌜ T (narrow (now widths)) ⌝ }
-    ensures { λ _. ⌜ now (numbers .exit) ≡ numbersIn (now (widths .entry)) (now (bytes .entry)) ⌝ }
-{
-    let mut at = 0;
-    let mut i = 0;
-    while i < widths.len() {
-        let end = at + widths[i];
-        numbers[i] = integers::of_bits(number_in(&bytes[at..end]));
-        at = end;
-        i += 1;
-    }
-}
-
-// Whether all of these numbers are 0.
-fn are_zeros(numbers: &[i64]) -> bool
-    ensures { λ r. ⌜ r ≡ areZeros (now (numbers .entry)) ⌝ }
-{
-    let mut i = 0;
-    while i < numbers.len() {
-        if !integers::are_same(numbers[i], 0) {
-            return false;
-        }
-        i += 1;
-    }
-    true
-}
-
 // A row's numbers in the order of the layout.
 fn row_numbers(row: Row) -> [i64; 9]
     ensures { λ r. ⌜ r ≡ rowNumbers row ⌝ }
@@ -173,7 +83,7 @@ fn put_row(row: Row, bytes: &mut [u8])
     requires { ⌜ rowSize ≤ length (now bytes) ⌝ }
     ensures { λ _. ⌜ now (bytes .exit) ≡ rowBytes row ++ drop rowSize (now (bytes .entry)) ⌝ }
 {
-    put_numbers(&WIDTHS, &row_numbers(row), bytes);
+    layouts::put_numbers(&WIDTHS, &row_numbers(row), bytes);
 }
 
 // The numbers in the bytes of a row, whatever they are.
@@ -182,7 +92,7 @@ fn numbers_in_row(bytes: &[u8]) -> [i64; 9]
     ensures { λ r. ⌜ r ≡ numbersIn widths1 (now (bytes .entry)) ⌝ }
 {
     let mut numbers = [0; 9];
-    numbers_in(&WIDTHS, bytes, &mut numbers);
+    layouts::numbers_in(&WIDTHS, bytes, &mut numbers);
     numbers
 }
 
@@ -202,7 +112,7 @@ fn is_refused(row: Row) -> bool
     ensures { λ r. ⌜ r ≡ isRefused row ⌝ }
 {
     let numbers = row_numbers(row);
-    integers::is_from_to(1, 4, row.status) & are_zeros(&numbers[3..])
+    integers::is_from_to(1, 4, row.status) & layouts::are_zeros(&numbers[3..])
 }
 
 // Whether a reader takes these fields.

@@ -4,7 +4,7 @@ use borrow.Author.Needs.{needs}
 use borrow.Author.Tests.{le-leb, lt-leb, not-true, not-false}
 use mathlib.Core.Bool.{Bool}
 use mathlib.Core.Path.{_≡_, sym, ap, _∙_}
-use Rattle.rows.specs.Layout.{numbersIn}
+use Rattle.layouts.specs.Layout.{numbersIn}
 use Rattle.rows.specs.Fields.{widths1, areRow}
 use Rattle.rows.specs.Answer.{readOf}
 use Rattle.rows.proofs.read_row.Statement.{statement}

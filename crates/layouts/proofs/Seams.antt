@@ -13,9 +13,9 @@ use mir.Facts.{and-yes}
 use mir.Syntax.{w64}
 use mir.Val.{ofZ}
 use borrow.Rule.Slice.PartMut.{putMid}
-use Rattle.rows.specs.Bytes.{fieldBytes, fieldNumber}
-use Rattle.rows.specs.Layout.{total, bytesOf, numbersIn, narrow}
-use Rattle.rows.proofs.Numbers.{big-length}
+use Rattle.layouts.specs.Bytes.{fieldBytes, fieldNumber}
+use Rattle.layouts.specs.Layout.{total, bytesOf, numbersIn, narrow}
+use Rattle.layouts.proofs.Numbers.{big-length}
 
 -- ---- the first i fields take `at` bytes, and what is still to come takes the rest
 pub record Seam (ks : List ℕ) (i at : ℕ) : Type 0 where

@@ -7,10 +7,10 @@ use native.Mathlib.Numerals.{add-one}
 use native.Mathlib.Omega.{arith}
 use lib.ListN.{length, drop, drop-of-length-le}
 use lib.Seq.{drop-cons}
-use Rattle.rows.specs.Bytes.{bigFrom, bigNumber}
-use Rattle.rows.proofs.Numbers.{next-small, next-fits}
-use Rattle.rows.proofs.number_in.Statement.{statement}
-use Rattle.rows.proofs.number_in.Tie as tie
+use Rattle.layouts.specs.Bytes.{bigFrom, bigNumber}
+use Rattle.layouts.proofs.Numbers.{next-small, next-fits}
+use Rattle.layouts.proofs.number_in.Statement.{statement}
+use Rattle.layouts.proofs.number_in.Tie as tie
 
 abbrev Inv-loop : tie.InvT-loop
 Inv-loop bytes n₀ i₀ n i = (bigFrom n (drop i bytes) ≡ bigNumber bytes) × (n < 2 ^ (8 * i))

@@ -10,9 +10,9 @@ use lib.IntN.{pos}
 use lib.ListN.{length, drop, getD, drop-of-length-le}
 use lib.Seq.{drop-cons}
 use Rattle.integers.proofs.Cast.{back-ok}
-use Rattle.rows.specs.Layout.{areZeros}
-use Rattle.rows.proofs.are_zeros.Statement.{statement}
-use Rattle.rows.proofs.are_zeros.Tie as tie
+use Rattle.layouts.specs.Layout.{areZeros}
+use Rattle.layouts.proofs.are_zeros.Statement.{statement}
+use Rattle.layouts.proofs.are_zeros.Tie as tie
 
 abbrev Inv-loop : tie.InvT-loop
 Inv-loop numbers i₀ i = areZeros (drop i numbers) ≡ areZeros numbers

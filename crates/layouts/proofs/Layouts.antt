@@ -13,9 +13,9 @@ use lib.Seq.{take-at, drop-at, take-add, length-take-le}
 use mir.Facts.{and-yes, yes-and, ofZ-toZ}
 use mir.Syntax.{w64}
 use mir.Val.{ofZ, toZ}
-use Rattle.rows.specs.Bytes.{bigEndian, fieldBytes, fieldNumber}
-use Rattle.rows.specs.Layout.{total, narrow, bytesOf, numbersIn}
-use Rattle.rows.proofs.Numbers.{big-length, number-big, number-small, big-number}
+use Rattle.layouts.specs.Bytes.{bigEndian, fieldBytes, fieldNumber}
+use Rattle.layouts.specs.Layout.{total, narrow, bytesOf, numbersIn}
+use Rattle.layouts.proofs.Numbers.{big-length, number-big, number-small, big-number}
 
 -- ---- what was laid out is read: each number is one that its field's bytes hold
 pub record Holds (k : ℕ) (z : ℤ) : Type 0 where

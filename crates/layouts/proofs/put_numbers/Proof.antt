@@ -8,9 +8,9 @@ use lib.IntN.{pos}
 use lib.ListN.{length, getD}
 use borrow.Rule.Slice.PartMut.{midOf, mid-len}
 use Rattle.integers.proofs.Cast.{back-ok}
-use Rattle.rows.proofs.Seams.{seam-next, Laid, laid-none, laid-more, laid-all, laid-long}
-use Rattle.rows.proofs.put_numbers.Statement.{statement}
-use Rattle.rows.proofs.put_numbers.Tie as tie
+use Rattle.layouts.proofs.Seams.{seam-next, Laid, laid-none, laid-more, laid-all, laid-long}
+use Rattle.layouts.proofs.put_numbers.Statement.{statement}
+use Rattle.layouts.proofs.put_numbers.Tie as tie
 
 abbrev Inv-loop : tie.InvT-loop
 Inv-loop widths numbers bytes₀ at₀ i₀ bytes at i = Laid widths numbers bytes₀ i at bytes

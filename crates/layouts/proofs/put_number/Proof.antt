@@ -7,10 +7,10 @@ use Prim.Native.Nat.{_≤_}
 use native.Mathlib.Omega.{arith}
 use lib.ListN.{length, drop, length-set}
 use lib.Seq.{drop-length}
-use Rattle.rows.specs.Bytes.{bigEndian}
-use Rattle.rows.proofs.Numbers.{next-byte}
-use Rattle.rows.proofs.put_number.Statement.{statement}
-use Rattle.rows.proofs.put_number.Tie as tie
+use Rattle.layouts.specs.Bytes.{bigEndian}
+use Rattle.layouts.proofs.Numbers.{next-byte}
+use Rattle.layouts.proofs.put_number.Statement.{statement}
+use Rattle.layouts.proofs.put_number.Tie as tie
 
 abbrev Inv-loop : tie.InvT-loop
 Inv-loop n bytes₀ rest₀ i₀ bytes rest i =

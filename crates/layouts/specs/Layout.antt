@@ -7,7 +7,7 @@ use lib.Dec.{leb}
 use lib.IntN.{ℤ, pos}
 use lib.ListN.{take, drop}
 use Rattle.integers.specs.Sign.{same}
-use Rattle.rows.specs.Bytes.{fieldBytes, fieldNumber}
+use Rattle.layouts.specs.Bytes.{fieldBytes, fieldNumber}
 
 -- how many bytes fields of these widths take together
 abbrev pub total : List ℕ → ℕ

@@ -11,7 +11,7 @@ use lib.ListN.{length, drop, set, length-append, length-set}
 use lib.Pow.{areBytes, mod-pow-add, pow-add, pow-mono}
 use lib.Seq.{append-snoc, drop-cons, drop-set-lt, getD-set-same}
 use mir.Facts.{and-yes}
-use Rattle.rows.specs.Bytes.{bigEndian, bigFrom, bigNumber}
+use Rattle.layouts.specs.Bytes.{bigEndian, bigFrom, bigNumber}
 
 -- a width of one byte more
 bits-more : (k : ℕ) → 8 * suc k ≡ 8 * k + 8

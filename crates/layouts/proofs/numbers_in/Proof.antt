@@ -5,9 +5,9 @@ use Prim.Native.Nat.{_+_, _-_, _≤_}
 use native.Mathlib.Omega.{arith}
 use lib.ListN.{length, getD, length-take}
 use Rattle.integers.proofs.Cast.{back-ok}
-use Rattle.rows.proofs.Seams.{seam-next, narrow-at, Picked, picked-none, picked-more, picked-all}
-use Rattle.rows.proofs.numbers_in.Statement.{statement}
-use Rattle.rows.proofs.numbers_in.Tie as tie
+use Rattle.layouts.proofs.Seams.{seam-next, narrow-at, Picked, picked-none, picked-more, picked-all}
+use Rattle.layouts.proofs.numbers_in.Statement.{statement}
+use Rattle.layouts.proofs.numbers_in.Tie as tie
 
 abbrev Inv-loop : tie.InvT-loop
 Inv-loop widths bytes numbers₀ at₀ i₀ numbers at i = Picked widths bytes i at numbers

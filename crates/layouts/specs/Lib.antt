@@ -1,0 +1,3 @@
+-- What the contracts of `layouts` cite: numbers in bytes, and fields of any widths.
+pub mod Bytes
+pub mod Layout
