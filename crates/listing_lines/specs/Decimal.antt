@@ -6,7 +6,7 @@ use lib.Dec.{ltb}
 use lib.IntN.{ℤ, pos, negsuc}
 
 -- the digits of n, of which is told whether it is below ten. The first number bounds how deep the recursion goes; n itself is enough
-unfoldable pub decimalFrom : ℕ → Bool → ℕ → List ℕ
+unfoldable pub decimalFrom : ℕ → (belowTen : Bool) → ℕ → List ℕ
 decimalFrom zero below n = (48 + n) ∷ []
 decimalFrom (suc k) true n = (48 + n) ∷ []
 decimalFrom (suc k) false n = decimalFrom k (ltb (n / 10) 10) (n / 10) ++ ((48 + n % 10) ∷ [])

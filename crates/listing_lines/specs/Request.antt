@@ -24,7 +24,7 @@ abbrev pub isMinus : ℕ → Bool
 isMinus b = eqb b 45
 
 -- d, where a test holds
-abbrev pub digitsIf : Bool → Digits → Digits
+abbrev pub digitsIf : (holds : Bool) → Digits → Digits
 digitsIf true d = d
 digitsIf false d = NoDigits
 
@@ -38,11 +38,11 @@ unfoldable pub digitsOf : List ℕ → Digits
 digitsOf l = digitsIf (leb 1 (length l) && leb (length l) 10) (digitsAfter 0 l)
 
 -- a number with its sign
-abbrev pub withSign : Bool → Digits → Number
+abbrev pub withSign : (negative : Bool) → Digits → Number
 withSign negative (Value n) = Whole (signed negative n)
 withSign negative NoDigits = NoNumber
 
-abbrev pub numberIf : Bool → Number → Number → Number
+abbrev pub numberIf : (isMinus : Bool) → Number → Number → Number
 numberIf true a b = a
 numberIf false a b = b
 
@@ -52,7 +52,7 @@ wholeOf [] = NoNumber
 wholeOf (b ∷ l) = numberIf (isMinus b) (withSign true (digitsOf l)) (withSign false (digitsOf (b ∷ l)))
 
 -- how many bytes stand before the first space: all of them, where there is none
-abbrev pub beforeIf : Bool → ℕ → ℕ
+abbrev pub beforeIf : (isSpace : Bool) → ℕ → ℕ
 beforeIf true n = 0
 beforeIf false n = n + 1
 

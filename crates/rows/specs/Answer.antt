@@ -16,7 +16,7 @@ use Rattle.layouts.specs.Layout.{numbersIn}
 use Rattle.rows.specs.Fields.{rowSize, widths1, bareRow, rowBytes, rowFrom, isRow, areRow}
 
 -- by whether the bytes are a row: the row, or refusal 9
-abbrev pub foundIf : (is : Bool) → Row → ReadAnswer
+abbrev pub foundIf : (isRow : Bool) → Row → ReadAnswer
 foundIf true row = Found row
 foundIf false row = Refused NoRow
 

@@ -40,7 +40,7 @@ use Rattle.rows.specs.Answer.{readOf, writtenIf, written}
 use Rattle.rows.proofs.Taken.{Counts}
 use Rattle.rows.proofs.RoundTrip.{a-refused-row-is-a-row-of-zeros, reading-gives-what-was-written, the-status-of-row, the-status-of-refused-row}
 use Rattle.sheets.specs.Row.{rowFor, bytesFor, rowWritten}
-use Rattle.sheets.specs.Sheet.{answerAt, rowAt, rowsOf, goodOf, isSheet, sheetWritten, goodIn, oneFor, oneIf}
+use Rattle.sheets.specs.Sheet.{answerAt, bytesAt, rowsOf, goodOf, isSheet, sheetWritten, goodIn, oneFor, oneIf}
 use Rattle.sheets.proofs.Laws.{bytes-long, row-by, sheet-by}
 
 -- ---- an answer's fields are a row's
@@ -103,7 +103,7 @@ one-more body frame done n (Found m p) rest h = ap oneFor (the-status-of-row don
 one-more body frame done n (Refused r) rest h = ap oneFor (the-status-of-refused-row done n r rest h) ∙ not-one (natAbs (numberOf r)) (range-least 1 (numberOf r) (number-is r))
 
 module _ (start : Date) (step body frame : ℤ) where
-  sized : (k : ℕ) → length (rowAt start step body frame k) ≡ rowSize
+  sized : (k : ℕ) → length (bytesAt start step body frame k) ≡ rowSize
   sized k = bytes-long body frame (answerAt start step body frame k)
 
   counted : (n : ℕ) (rest : List ℕ) → goodOf start step body frame n ≡ goodIn (rowsOf start step body frame n ++ rest) n
@@ -111,8 +111,8 @@ module _ (start : Date) (step body frame : ℤ) where
   counted zero rest = refl
   counted (suc n) rest =
       let rows = rowsOf start step body frame n in
-      let row = rowAt start step body frame n in
-      (λ i. counted n (row ++ rest) i + sym (one-more body frame rows n (answerAt start step body frame n) rest (blocks-long rowSize (rowAt start step body frame) sized n)) i)
+      let row = bytesAt start step body frame n in
+      (λ i. counted n (row ++ rest) i + sym (one-more body frame rows n (answerAt start step body frame n) rest (blocks-long rowSize (bytesAt start step body frame) sized n)) i)
       ∙ ap (λ (b : List ℕ). goodIn b n + oneFor (statusAt b n)) (sym (append-assoc rows row rest))
 
 -- ---- a sheet that is not refused: `after` is what it leaves
@@ -124,10 +124,10 @@ module _ (start : Date) (step count body frame : ℤ) (before : List ℕ) (is : 
   rows-are = ap (λ (w : SheetAnswer × List ℕ). w .1) (sheet-by start step body frame count before is room)
 
   -- row k is that of its own answer, and a reader takes it
-  pub row-k-stands-by-itself : (k : ℕ) → k < natAbs count → take rowSize (drop (rowSize * k) after) ≡ rowAt start step body frame k
+  pub row-k-stands-by-itself : (k : ℕ) → k < natAbs count → take rowSize (drop (rowSize * k) after) ≡ bytesAt start step body frame k
   row-k-stands-by-itself k h =
       ap (λ (b : List ℕ). take rowSize (drop (rowSize * k) b)) rows-are
-      ∙ block-in-place rowSize (rowAt start step body frame) (sized start step body frame) (natAbs count) k (drop (rowSize * natAbs count) before) h
+      ∙ block-in-place rowSize (bytesAt start step body frame) (sized start step body frame) (natAbs count) k (drop (rowSize * natAbs count) before) h
 
   pub row-k-is-read : (k : ℕ) → k < natAbs count → readOf (drop (rowSize * k) after) ≡ FoundRow (rowFor body frame (answerAt start step body frame k))
   row-k-is-read k h =

@@ -22,11 +22,11 @@ abbrev pub answerAt : Date → ℤ → ℤ → ℤ → ℕ → PlaceAnswer
 answerAt start step body frame k = placeAfter start (step *ℤ pos k) body frame
 
 -- its bytes, and those of the first n rows
-abbrev pub rowAt : Date → ℤ → ℤ → ℤ → ℕ → List ℕ
-rowAt start step body frame k = bytesFor body frame (answerAt start step body frame k)
+abbrev pub bytesAt : Date → ℤ → ℤ → ℤ → ℕ → List ℕ
+bytesAt start step body frame k = bytesFor body frame (answerAt start step body frame k)
 
 abbrev pub rowsOf : Date → ℤ → ℤ → ℤ → ℕ → List ℕ
-rowsOf start step body frame n = blocks (rowAt start step body frame) n
+rowsOf start step body frame n = blocks (bytesAt start step body frame) n
 
 -- "how many of its rows have status 0"
 abbrev pub oneIf : PlaceAnswer → ℕ
