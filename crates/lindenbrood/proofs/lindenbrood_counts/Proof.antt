@@ -4,7 +4,7 @@ use borrow.Author.Needs.{needs}
 use mathlib.Core.Path.{ap, _∙_}
 use Rattle.integers.proofs.Cast.{back}
 use Rattle.places.specs.Answer.{placeAnswer}
-use Rattle.lindenbrood.specs.Answer.{cCounts}
+use Rattle.answers.specs.Answer.{cCounts}
 use Rattle.lindenbrood.proofs.lindenbrood_counts.Statement.{statement}
 use Rattle.lindenbrood.proofs.lindenbrood_counts.Tie as tie
 

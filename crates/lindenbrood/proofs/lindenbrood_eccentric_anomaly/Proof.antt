@@ -5,8 +5,8 @@ use mathlib.Core.Path.{_≡_, subst, sym, ap, _∙_}
 use Rattle.integers.proofs.Cast.{back}
 use Rattle.kepler.specs.Answer.{solvedOf}
 use Rattle.kepler.proofs.Demand.{answers-as-asked}
-use Rattle.lindenbrood.specs.Answer.{cAngle, IsSolved}
-use Rattle.lindenbrood.proofs.Solved.{in-words}
+use Rattle.answers.specs.Answer.{cAngle, IsSolved}
+use Rattle.answers.proofs.Solved.{in-words}
 use Rattle.lindenbrood.proofs.lindenbrood_eccentric_anomaly.Statement.{statement}
 use Rattle.lindenbrood.proofs.lindenbrood_eccentric_anomaly.Tie as tie
 

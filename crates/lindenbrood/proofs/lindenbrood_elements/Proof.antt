@@ -4,7 +4,7 @@ use borrow.Author.Needs.{needs}
 use mathlib.Core.Path.{ap, _∙_}
 use Rattle.integers.proofs.Cast.{back}
 use Rattle.orbits.specs.Answer.{elementsAnswer}
-use Rattle.lindenbrood.specs.Answer.{cElements}
+use Rattle.answers.specs.Answer.{cElements}
 use Rattle.lindenbrood.proofs.lindenbrood_elements.Statement.{statement}
 use Rattle.lindenbrood.proofs.lindenbrood_elements.Tie as tie
 

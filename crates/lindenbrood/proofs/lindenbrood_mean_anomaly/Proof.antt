@@ -4,7 +4,7 @@ use borrow.Author.Needs.{needs}
 use mathlib.Core.Path.{ap, _∙_}
 use Rattle.integers.proofs.Cast.{back}
 use Rattle.orbits.specs.Answer.{meanAnswer}
-use Rattle.lindenbrood.specs.Answer.{cAngle}
+use Rattle.answers.specs.Answer.{cAngle}
 use Rattle.lindenbrood.proofs.lindenbrood_mean_anomaly.Statement.{statement}
 use Rattle.lindenbrood.proofs.lindenbrood_mean_anomaly.Tie as tie
 

@@ -4,7 +4,7 @@ use borrow.Author.Needs.{needs}
 use mathlib.Core.Path.{ap, _∙_}
 use Rattle.integers.proofs.Cast.{back}
 use Rattle.places.specs.Answer.{auAnswer}
-use Rattle.lindenbrood.specs.Answer.{cPlace}
+use Rattle.answers.specs.Answer.{cPlace}
 use Rattle.lindenbrood.proofs.lindenbrood_place.Statement.{statement}
 use Rattle.lindenbrood.proofs.lindenbrood_place.Tie as tie
 

@@ -2,7 +2,7 @@
 -- By what the two calls ensure.
 use borrow.Author.Needs.{needs}
 use mathlib.Core.Path.{ap, _∙_}
-use Rattle.lindenbrood.specs.Lent.{cRow}
+use Rattle.answers.specs.Lent.{cRow}
 use Rattle.lindenbrood.proofs.lindenbrood_read_row.Statement.{statement}
 use Rattle.lindenbrood.proofs.lindenbrood_read_row.Tie as tie
 

@@ -4,8 +4,8 @@ use borrow.Author.Needs.{needs}
 use mathlib.Core.Path.{ap, _∙_}
 use Rattle.integers.proofs.Cast.{back}
 use Rattle.sheets.specs.Sheet.{sheetWritten}
-use Rattle.lindenbrood.specs.declared.CSheet.{CSheet}
-use Rattle.lindenbrood.specs.Lent.{sheetNumber}
+use Rattle.answers.specs.declared.CSheet.{CSheet}
+use Rattle.answers.specs.Lent.{sheetNumber}
 use Rattle.lindenbrood.proofs.lindenbrood_sheet.Statement.{statement}
 use Rattle.lindenbrood.proofs.lindenbrood_sheet.Tie as tie
 

@@ -5,7 +5,7 @@ use mathlib.Core.Path.{ap, _∙_}
 use mathlib.Core.List.{[], _∷_}
 use Rattle.integers.proofs.Cast.{back}
 use Rattle.frames.specs.Rtn.{toRtn}
-use Rattle.lindenbrood.specs.Answer.{cVector}
+use Rattle.answers.specs.Answer.{cVector}
 use Rattle.lindenbrood.proofs.lindenbrood_to_rtn.Statement.{statement}
 use Rattle.lindenbrood.proofs.lindenbrood_to_rtn.Tie as tie
 

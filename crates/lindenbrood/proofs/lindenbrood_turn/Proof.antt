@@ -5,7 +5,7 @@ use mathlib.Core.Path.{ap, _∙_}
 use mathlib.Core.List.{[], _∷_}
 use Rattle.integers.proofs.Cast.{back}
 use Rattle.places.specs.Answer.{turnAnswer}
-use Rattle.lindenbrood.specs.Answer.{cVector}
+use Rattle.answers.specs.Answer.{cVector}
 use Rattle.lindenbrood.proofs.lindenbrood_turn.Statement.{statement}
 use Rattle.lindenbrood.proofs.lindenbrood_turn.Tie as tie
 

@@ -5,7 +5,7 @@ use mathlib.Core.Path.{ap, _∙_}
 use lib.IntN.{ℤ}
 use Rattle.integers.proofs.Cast.{back, back-ok}
 use Rattle.rows.specs.Answer.{written}
-use Rattle.lindenbrood.specs.Lent.{rowOfFields, writtenNumber}
+use Rattle.answers.specs.Lent.{rowOfFields, writtenNumber}
 use Rattle.lindenbrood.proofs.lindenbrood_write_row.Statement.{statement}
 use Rattle.lindenbrood.proofs.lindenbrood_write_row.Tie as tie
 

@@ -5,9 +5,9 @@ use mathlib.Core.Path.{sym, ap, _∙_}
 use lib.IntN.{ℤ}
 use Rattle.integers.proofs.Cast.{back-ok}
 use Rattle.orbits.specs.Answer.{noElements}
-use Rattle.lindenbrood.specs.Answer.{sixElements, cElements}
-use Rattle.lindenbrood.proofs.elements_of.Statement.{statement}
-use Rattle.lindenbrood.proofs.elements_of.Tie as tie
+use Rattle.answers.specs.Answer.{sixElements, cElements}
+use Rattle.answers.proofs.elements_of.Statement.{statement}
+use Rattle.answers.proofs.elements_of.Tie as tie
 
 returns : tie.Need-returns
 returns c = c .found-of .ensures ∙ sym (ap cElements (c .before .before .answer .given .1))

@@ -7,8 +7,8 @@ use Rattle.rows.specs.declared.ReadAnswer.{ReadAnswer}
 use Rattle.rows.specs.declared.Written.{Written}
 use Rattle.rows.specs.Answer.{readStatus, readRow, writtenStatus}
 use Rattle.sheets.specs.declared.SheetAnswer.{SheetAnswer}
-use Rattle.lindenbrood.specs.declared.CRow.{CRow}
-use Rattle.lindenbrood.specs.declared.CSheet.{CSheet}
+use Rattle.answers.specs.declared.CRow.{CRow}
+use Rattle.answers.specs.declared.CSheet.{CSheet}
 
 -- the row of seven fields
 abbrev pub rowOfFields : ℤ → ℤ → ℤ → ℤ → ℤ → ℤ → ℤ → Row

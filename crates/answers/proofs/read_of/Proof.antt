@@ -5,9 +5,9 @@ use mathlib.Core.Path.{sym, ap, _∙_}
 use lib.IntN.{ℤ, pos}
 use Rattle.integers.proofs.Cast.{back-ok}
 use Rattle.rows.specs.Fields.{bareRow}
-use Rattle.lindenbrood.specs.Lent.{rowFields, cRow}
-use Rattle.lindenbrood.proofs.read_of.Statement.{statement}
-use Rattle.lindenbrood.proofs.read_of.Tie as tie
+use Rattle.answers.specs.Lent.{rowFields, cRow}
+use Rattle.answers.proofs.read_of.Statement.{statement}
+use Rattle.answers.proofs.read_of.Tie as tie
 
 returns : tie.Need-returns
 returns c = c .fields-of .ensures ∙ sym (ap cRow (c .before .before .answer .given .1))

@@ -20,11 +20,11 @@ use Rattle.projector.specs.declared.PlaceInAu.{PlaceInAu}
 use Rattle.places.specs.declared.PlaceAnswer.{PlaceAnswer}
 use Rattle.places.specs.declared.AuAnswer.{AuAnswer}
 use Rattle.places.specs.Answer.{placeStatus, placeCoordinates, auStatus, auPlace}
-use Rattle.lindenbrood.specs.declared.CDate.{CDate}
-use Rattle.lindenbrood.specs.declared.CAngle.{CAngle}
-use Rattle.lindenbrood.specs.declared.CElements.{CElements}
-use Rattle.lindenbrood.specs.declared.CVector.{CVector}
-use Rattle.lindenbrood.specs.declared.CPlace.{CPlace}
+use Rattle.answers.specs.declared.CDate.{CDate}
+use Rattle.answers.specs.declared.CAngle.{CAngle}
+use Rattle.answers.specs.declared.CElements.{CElements}
+use Rattle.answers.specs.declared.CVector.{CVector}
+use Rattle.answers.specs.declared.CPlace.{CPlace}
 
 -- form 0: the Julian date; any other form: the minutes
 abbrev pub dateOf : CDate → Date

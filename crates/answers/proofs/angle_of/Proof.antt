@@ -4,10 +4,10 @@ use borrow.Author.Needs.{needs}
 use mathlib.Core.Path.{sym, ap, _∙_}
 use lib.IntN.{ℤ, pos}
 use Rattle.integers.proofs.Cast.{back-ok}
-use Rattle.lindenbrood.specs.Answer.{cAngle}
-use Rattle.lindenbrood.specs.declared.CAngle.{CAngle}
-use Rattle.lindenbrood.proofs.angle_of.Statement.{statement}
-use Rattle.lindenbrood.proofs.angle_of.Tie as tie
+use Rattle.answers.specs.Answer.{cAngle}
+use Rattle.answers.specs.declared.CAngle.{CAngle}
+use Rattle.answers.proofs.angle_of.Statement.{statement}
+use Rattle.answers.proofs.angle_of.Tie as tie
 
 abbrev anAngle : ℤ → ℤ → CAngle
 anAngle s a = record { status = s; angle = a }

@@ -4,8 +4,8 @@ use borrow.Author.Needs.{needs}
 use mathlib.Core.Path.{sym, ap, _∙_}
 use Rattle.integers.proofs.Cast.{back-ok}
 use Rattle.rows.specs.Answer.{writtenStatus}
-use Rattle.lindenbrood.proofs.written_of.Statement.{statement}
-use Rattle.lindenbrood.proofs.written_of.Tie as tie
+use Rattle.answers.proofs.written_of.Statement.{statement}
+use Rattle.answers.proofs.written_of.Tie as tie
 
 returns : tie.Need-returns
 returns c = sym (ap writtenStatus (c .enum-told .given .1))

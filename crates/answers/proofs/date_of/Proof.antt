@@ -11,8 +11,8 @@ use Rattle.integers.proofs.Cast.{read}
 use Rattle.integers.proofs.Same.{same-by-bits, other-by-bits}
 use Rattle.dates.specs.declared.Date.{Date}
 use Rattle.dates.specs.declared.Date.the-variants.{Julian, Minutes}
-use Rattle.lindenbrood.proofs.date_of.Statement.{statement}
-use Rattle.lindenbrood.proofs.date_of.Tie as tie
+use Rattle.answers.proofs.date_of.Statement.{statement}
+use Rattle.answers.proofs.date_of.Tie as tie
 
 form-fits : (s : tie.Start) → SFits w64 (s .args .date .form)
 form-fits s = search needs

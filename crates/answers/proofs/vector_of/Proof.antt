@@ -3,9 +3,9 @@
 use borrow.Author.Needs.{needs}
 use mathlib.Core.Path.{sym, ap, _∙_}
 use Rattle.integers.proofs.Cast.{back-ok}
-use Rattle.lindenbrood.specs.Answer.{threeCounts, cVector}
-use Rattle.lindenbrood.proofs.vector_of.Statement.{statement}
-use Rattle.lindenbrood.proofs.vector_of.Tie as tie
+use Rattle.answers.specs.Answer.{threeCounts, cVector}
+use Rattle.answers.proofs.vector_of.Statement.{statement}
+use Rattle.answers.proofs.vector_of.Tie as tie
 
 returns : tie.Need-returns
 returns c = c .three-counts .ensures ∙ sym (ap cVector (c .before .before .turned .given .1))

@@ -7,7 +7,7 @@ use Rattle.refusals.specs.Number.{numberOf}
 use Rattle.kepler.specs.declared.AnomalyAnswer.{AnomalyAnswer}
 use Rattle.kepler.specs.declared.AnomalyAnswer.the-variants.{Anomaly, Refused}
 use Rattle.kepler.specs.Answer.{Answers}
-use Rattle.lindenbrood.specs.Answer.{cAngle, IsSolved}
+use Rattle.answers.specs.Answer.{cAngle, IsSolved}
 
 pub in-words : (e M : ℤ) (answer : AnomalyAnswer) → Answers e M answer → IsSolved e M (cAngle answer)
 in-words e M (Anomaly E) h = inl (refl, h .0, h .1)

@@ -3,9 +3,9 @@
 use borrow.Author.Needs.{needs}
 use mathlib.Core.Path.{sym, ap, _∙_}
 use Rattle.integers.proofs.Cast.{back-ok}
-use Rattle.lindenbrood.specs.Answer.{threeDoubles, cPlace}
-use Rattle.lindenbrood.proofs.au_of.Statement.{statement}
-use Rattle.lindenbrood.proofs.au_of.Tie as tie
+use Rattle.answers.specs.Answer.{threeDoubles, cPlace}
+use Rattle.answers.proofs.au_of.Statement.{statement}
+use Rattle.answers.proofs.au_of.Tie as tie
 
 returns : tie.Need-returns
 returns c = c .three-doubles .ensures ∙ sym (ap cPlace (c .before .before .answer .given .1))

@@ -6,8 +6,8 @@ use Prim.Native.Nat.{_<_, _^_}
 use lib.IntN.{ℤ, pos}
 use lib.Signed.{mag}
 use Rattle.integers.proofs.Cast.{read, back-ok}
-use Rattle.lindenbrood.proofs.found_of.Statement.{statement}
-use Rattle.lindenbrood.proofs.found_of.Tie as tie
+use Rattle.answers.proofs.found_of.Statement.{statement}
+use Rattle.answers.proofs.found_of.Tie as tie
 
 -- a call's result, read back, is what the call ensures
 same : {x z : ℤ} → mag x < 2 ^ 63 → x ≡ z → read x ≡ z
