@@ -2,14 +2,15 @@
 -- By the cases of ℤ; two numbers that fit have the same bits where they are one (Cast).
 use mathlib.Core.Bool.{Bool, true, false}
 use mathlib.Core.Path.{_≡_, refl, ap, sym, subst⁻¹}
-use lib.Dec.{T, eqb, eqb→eq}
+use Prim.Native.Nat.{ℕ, _^_}
+use lib.Dec.{T, ltb, ltb→lt, eqb, eqb→eq}
 use lib.IntN.{ℤ, pos, negsuc, natAbs}
 use mir.Syntax.{w64}
 use mir.Val.{SFits, ofZ}
 use borrow.Author.Tests.{eq-eqb, ne-eqb}
 use Rattle.integers.specs.Sign.{same}
 use Rattle.integers.proofs.Difference.{zarith}
-use Rattle.integers.proofs.Cast.{same-bits}
+use Rattle.integers.proofs.Cast.{same-bits, pos-fits}
 
 pub same-yes : (a b : ℤ) → a ≡ b → same a b ≡ true
 same-yes (pos a) (pos b) e = eq-eqb a b (ap natAbs e)
@@ -36,6 +37,14 @@ module _ {a b : ℤ} (f : SFits w64 a) (g : SFits w64 b) where
 
   pub other-by-bits : (ofZ w64 a ≡ ofZ w64 b → ⊥) → same a b ≡ false
   other-by-bits n = same-no a b (λ e. n (ap (ofZ w64) e))
+
+-- a number beside one that is written in the code
+module _ {a : ℤ} (f : SFits w64 a) (n : ℕ) (small : T (ltb n (2 ^ 63))) where
+  pub is-written : ofZ w64 a ≡ n → same a (pos n) ≡ true
+  is-written e = same-by-bits f (pos-fits n (ltb→lt n (2 ^ 63) small)) e
+
+  pub is-other : (ofZ w64 a ≡ n → ⊥) → same a (pos n) ≡ false
+  is-other e = other-by-bits f (pos-fits n (ltb→lt n (2 ^ 63) small)) e
 
 -- the test of the bits is the test of the numbers
 alike : (a b : Bool) → (T a → b ≡ true) → ((T a → ⊥) → b ≡ false) → a ≡ b
