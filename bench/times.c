@@ -21,8 +21,10 @@ enum {
 #define RADIANS 0.017453292519943295
 #define EPOCH 2451545.0
 
-/* The inputs. eraPlan94 has no Pluto: the lines that show it ask for bodies 1 to 8 on both sides. */
+/* The inputs. eraPlan94 has no Pluto: the lines that show it ask for bodies 1 to 8 on both sides. Long minutes are those
+ * of Table 2's interval, and outer bodies, 5 to 8, those for which Table 2 has all three further terms in M. */
 static int64_t minutes[CALLS], nine_bodies[CALLS], eight_bodies[CALLS], angles[CALLS];
+static int64_t long_minutes[CALLS], outer_bodies[CALLS];
 static const int64_t *bodies;
 static double julian_dates[CALLS];
 
@@ -55,6 +57,10 @@ static void make_inputs(void)
         eight_bodies[i] = chance_between(1, 8);
         angles[i] = chance_between(-180000000, 179999999);
     }
+    for (int i = 0; i < CALLS; i++) {
+        long_minutes[i] = chance_between(LINDENBROOD_TABLE_2_FIRST_MINUTE, LINDENBROOD_TABLE_2_LAST_MINUTE);
+        outer_bodies[i] = chance_between(LINDENBROOD_JUPITER, LINDENBROOD_NEPTUNE);
+    }
 }
 
 /* A batch makes all calls of a round with one parameter and answers a sum of what came out. */
@@ -78,6 +84,27 @@ static double plain_places(int64_t frame)
             double_place((double)minutes[i], (int)bodies[i], place);
         else
             double_heeq((double)minutes[i], (int)bodies[i], place);
+        sum += place[0];
+    }
+    return sum;
+}
+
+static double our_long_places(int64_t frame)
+{
+    double sum = 0;
+
+    for (int i = 0; i < CALLS; i++)
+        sum += lindenbrood_place_by_table(lindenbrood_minutes(long_minutes[i]), LINDENBROOD_TABLE_2, bodies[i], frame).x;
+    return sum;
+}
+
+static double plain_long_places(int64_t frame)
+{
+    double sum = 0, place[3];
+
+    (void)frame;
+    for (int i = 0; i < CALLS; i++) {
+        double_place_by_table((double)long_minutes[i], LINDENBROOD_TABLE_2, (int)bodies[i], place);
         sum += place[0];
     }
     return sum;
@@ -159,6 +186,25 @@ static double plain_elements(int64_t unused)
         sum += elements[3];
     }
     return sum;
+}
+
+static double our_mean_anomalies(int64_t unused)
+{
+    int64_t sum = 0;
+
+    (void)unused;
+    for (int i = 0; i < CALLS; i++)
+        sum += lindenbrood_mean_anomaly(lindenbrood_minutes(minutes[i]), bodies[i]).angle;
+    return (double)sum;
+}
+
+static double our_mean_anomalies_by_table(int64_t table)
+{
+    int64_t sum = 0;
+
+    for (int i = 0; i < CALLS; i++)
+        sum += lindenbrood_mean_anomaly_by_table(lindenbrood_minutes(minutes[i]), table, bodies[i]).angle;
+    return (double)sum;
 }
 
 static double our_rows(int64_t frame)
@@ -246,7 +292,7 @@ static double plain_sheets(int64_t frame)
 
 typedef struct {
     const char *what;
-    int64_t parameter;     /* frame, or eccentricity in 10^-8 */
+    int64_t parameter;     /* frame, eccentricity in 10^-8, or table */
     const int64_t *bodies; /* who is asked for */
     batch batches[3];      /* ours, the plain program's, eraPlan94's; NULL where there is none */
 } line;
@@ -255,6 +301,7 @@ static const line lines[] = {
     {"place in HAE", LINDENBROOD_HAE, nine_bodies, {our_places, plain_places, NULL}},
     {"the same, bodies 1 to 8", LINDENBROOD_HAE, eight_bodies, {our_places, plain_places, plan94_places}},
     {"place in HEEQ", LINDENBROOD_HEEQ, nine_bodies, {our_places, plain_places, NULL}},
+    {"place by Table 2, 5 to 8", LINDENBROOD_HAE, outer_bodies, {our_long_places, plain_long_places, NULL}},
     {"solve, e 0.0068", 680000, nine_bodies, {our_solves, plain_solves, NULL}},
     {"solve, e 0.0167", 1670000, nine_bodies, {our_solves, plain_solves, NULL}},
     {"solve, e 0.0934", 9340000, nine_bodies, {our_solves, plain_solves, NULL}},
@@ -262,6 +309,10 @@ static const line lines[] = {
     {"solve, e 0.2488", 24880000, nine_bodies, {our_solves, plain_solves, NULL}},
     {"solve, e 0.9", 90000000, nine_bodies, {our_solves, plain_solves, NULL}},
     {"elements", 0, nine_bodies, {our_elements, plain_elements, NULL}},
+    /* Two on the same dates and bodies. The first needs no sine and builds no table of sines; what they differ by is what
+     * Table 2 costs, mostly that table and the further terms. */
+    {"mean anomaly, 5 to 8", 0, outer_bodies, {our_mean_anomalies, NULL, NULL}},
+    {"the same by Table 2", LINDENBROOD_TABLE_2, outer_bodies, {our_mean_anomalies_by_table, NULL, NULL}},
     {"sine", 0, nine_bodies, {our_sines, plain_sines, NULL}},
     {"row in HAE, Julian date", LINDENBROOD_HAE, nine_bodies, {our_rows, plain_rows, NULL}},
     /* The last two ask for the same rows, by minutes both: what they differ by is what a sheet saves. */

@@ -26,17 +26,17 @@ extern const size_t hard_integer_count;
 /* Julian dates: not finite, denormal, huge, zeros, and some that are taken. */
 typedef struct {
     double julian;
-    int64_t status; /* 0, 1 or 2 */
+    int64_t status; /* 0, 1 or 2, by Table 1 */
 } hard_date;
 extern const hard_date hard_dates[];
 extern const size_t hard_date_count;
 
-/* The status that a date in minutes, a body and a frame deserve. */
+/* The status that a date in minutes, by Table 1, a body and a frame deserve. */
 int64_t minutes_status(int64_t minutes);
 int64_t body_status(int64_t body);
 int64_t frame_status(int64_t frame);
 
-/* The first of two refusals, given in the order of their numbers. */
+/* The first of two refusals, given in their order. */
 int64_t first_refusal(int64_t earlier, int64_t later);
 
 /* Bytes to lend, filled with a pattern in which no two neighbours are alike.
@@ -77,5 +77,7 @@ void test_vectors(void);
 void test_rows(void);
 void test_sheets(void);
 void test_forms(void);
+void test_tables(void);
+void test_long_table(void);
 
 #endif

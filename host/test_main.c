@@ -35,6 +35,8 @@ int main(void)
     test_rows();
     test_sheets();
     test_forms();
+    test_tables();
+    test_long_table();
     printf("host tests: %ld checks, %ld failed\n", checks, failed);
     return failed == 0 ? 0 : 1;
 }

@@ -32,10 +32,24 @@
  * lindenbrood_minutes make a date of either kind.
  *
  * A Julian date d becomes the minute floor((d - 2451545) * 1440 + 1/2),
- * without any rounding error, before its interval is tested.  The interval
- * runs from minute -105189840 (JD 2378496.5) to minute 26298000
- * (JD 2469807.5), both accepted.  Refusal 2 speaks of that minute and not of
- * the Julian date: JD 2469807.5003 rounds to the last minute and is accepted.
+ * without any rounding error, before it is tested against the interval of the
+ * table used.  Refusal 2 speaks of that minute and not of the Julian date:
+ * JD 2469807.5003 rounds to Table 1's last minute and is accepted.
+ *
+ *
+ * TABLES
+ *
+ *   no.  elements from       first minute               last minute
+ *    1   Table 1              -105189840 (JD 2378496.5)   26298000 (JD 2469807.5)
+ *    2   Tables 2a and 2b    -2629254960 (JD  625673.5)  525949200 (JD 2816787.5)
+ *
+ * The tables are Standish's: the first for the years 1800 to 2050, the second
+ * for 3000 BC to 3000 AD.  Both ends of each interval are accepted.
+ *
+ * A call whose name ends in _by_table takes the table's number right after the
+ * date.  A call that names no table uses Table 1, and so do all rows and
+ * sheets.  On a date that both tables cover their answers differ a little, so
+ * that a curve drawn by the one and then by the other has a step in it.
  *
  *
  * BODIES
@@ -55,7 +69,7 @@
  *   4  HEE   X toward the Earth in the ecliptic of J2000, Z the ecliptic pole
  *   5  HEEQ  Z is the Sun's axis, X on the Earth's side in the plane of both
  *
- * HEE and HEEQ turn with the Earth's place on the date given.
+ * HEE and HEEQ turn with the Earth's place on the date given, by the table used.
  *
  *
  * STATUS NUMBERS
@@ -64,7 +78,8 @@
  *    0   the call is answered                              the answer
  *    1   the date has form 0 and a Julian date that is     zeros, or a refused row
  *        not finite
- *    2   the date's minute is outside the interval         zeros, or a refused row
+ *    2   the date's minute is outside the interval of the  zeros, or a refused row
+ *        table used
  *    3   the body is not 1 to 9                            zeros, or a refused row
  *    4   a frame is not 1 to 5                             zeros, or a refused row
  *    5   a part of a given vector or place is beyond       zeros
@@ -78,9 +93,10 @@
  *        or the fields to be written make none
  *   10   the sheet's step is not 1 to 1000000, or its      buffer untouched, no good row
  *        count is not 0 to 400
+ *   11   the table is not 1 or 2                           zeros
  *
- * Where several apply only the first is given: 10 comes first, then 8, then
- * the others by number.  Only 0 to 4 stand in rows.
+ * Where several apply only the first is given, in this order: 10, 8, 1, 11,
+ * and then the others by number.  Only 0 to 4 stand in rows.
  *
  * Every number given may have any value, each member of a date too: what is
  * out of range is refused by its number, and nothing overflows.  L is the floor
@@ -118,7 +134,8 @@ enum {
     LINDENBROOD_NO_ELLIPSE = 7,
     LINDENBROOD_SHORT_BUFFER = 8,
     LINDENBROOD_NO_ROW = 9,
-    LINDENBROOD_NO_SHEET = 10
+    LINDENBROOD_NO_SHEET = 10,
+    LINDENBROOD_NO_SUCH_TABLE = 11
 };
 
 enum {
@@ -142,14 +159,23 @@ enum {
 };
 
 enum {
-    LINDENBROOD_FIRST_MINUTE = -105189840, /* JD 2378496.5 */
-    LINDENBROOD_LAST_MINUTE = 26298000,    /* JD 2469807.5 */
+    LINDENBROOD_TABLE_1 = 1, /* 1800 to 2050; used where no table is named */
+    LINDENBROOD_TABLE_2 = 2  /* 3000 BC to 3000 AD */
+};
+
+enum {
+    LINDENBROOD_FIRST_MINUTE = -105189840, /* of Table 1, JD 2378496.5 */
+    LINDENBROOD_LAST_MINUTE = 26298000,    /* of Table 1, JD 2469807.5 */
     LINDENBROOD_PART_LIMIT = 500000000,    /* 50 au */
     LINDENBROOD_E_LIMIT = 90000000,        /* 0.9 */
     LINDENBROOD_ROW_BYTES = 38,
     LINDENBROOD_MOST_ROWS = 400,
     LINDENBROOD_MOST_STEP = 1000000        /* minutes */
 };
+
+/* Table 2's ends.  They are no enum: in C99 its members must fit an int. */
+#define LINDENBROOD_TABLE_2_FIRST_MINUTE (-INT64_C(2629254960)) /* JD 625673.5 */
+#define LINDENBROOD_TABLE_2_LAST_MINUTE INT64_C(525949200)      /* JD 2816787.5 */
 
 /* A date. */
 typedef struct {
@@ -224,7 +250,7 @@ typedef struct {
  *
  * Returned: the date, with 0 in the member that its form does not name.
  *
- * Note: nothing is tested or rounded here: what is not finite or outside the
+ * Note: nothing is tested or rounded here: what is not finite or outside an
  * interval is refused by the call that takes the date.  Both stand in this
  * header and not in the library: from a language other than C and C++, fill
  * the struct.
@@ -260,7 +286,8 @@ static inline lindenbrood_date lindenbrood_minutes(int64_t minutes)
  *   22 - 29  y, 10^-7 au
  *   30 - 37  z, 10^-7 au
  *
- * A refused row has its length, version and status, and 34 zero bytes.
+ * A refused row has its length, version and status, and 34 zero bytes.  A row
+ * holds a place by Table 1 and names no table.
  */
 
 /*
@@ -298,7 +325,7 @@ int64_t lindenbrood_row(lindenbrood_date date, int64_t body, int64_t frame,
  *   status     of the row, 0 to 4
  *   body       1 to 9; 0 in a refused row
  *   frame      1 to 5; 0 in a refused row
- *   minutes    in the interval; 0 in a refused row
+ *   minutes    in Table 1's interval; 0 in a refused row
  *   x, y, z    any numbers, 10^-7 au; 0 in a refused row
  *   len        bytes lent, at least 38
  *
@@ -331,8 +358,8 @@ int64_t lindenbrood_write_row(int64_t status, int64_t body, int64_t frame,
  *
  * Returned: the status of the reading, and the fields.
  *   0   the bytes are a row: length 36, version 1, and either status 0 with a
- *       known body and frame and minutes in the interval (any x, y, z), or
- *       status 1 to 4 with 34 zeros
+ *       known body and frame and minutes in Table 1's interval (any x, y, z),
+ *       or status 1 to 4 with 34 zeros
  *   9   the bytes are no row, or len is under 38: all fields are 0
  *
  * Note: a refused row is a row: reading it answers status 0 with row_status 1
@@ -368,8 +395,8 @@ lindenbrood_row_answer lindenbrood_read_row(const uint8_t *row, size_t len);
  *
  * Notes:
  *   Row k, from 0, is byte for byte the single row of its own date, so that a
- *   sheet may enter or leave the interval: rows whose date, body or frame is
- *   refused hold the refused row (status 1 to 4), and rows after them are
+ *   sheet may enter or leave Table 1's interval: rows whose date, body or frame
+ *   is refused hold the refused row (status 1 to 4), and rows after them are
  *   still worked out.  The sheet's own status is 0 all the same: a sheet whose
  *   rows are all refused answers status 0 and good 0.
  *   The sums are exact and never wrap.  A Julian start becomes its minute
@@ -420,6 +447,48 @@ lindenbrood_place_answer lindenbrood_place(lindenbrood_date date, int64_t body,
 lindenbrood_vector_answer lindenbrood_counts(lindenbrood_date date, int64_t body,
                                              int64_t frame);
 
+/*
+ * lindenbrood_place_by_table
+ *
+ * The place of a body on a date by the table named, in au.
+ *
+ * Given:
+ *   date    a Julian date or minutes, see DATES
+ *   table   1 or 2, see TABLES
+ *   body    1 to 9
+ *   frame   1 to 5
+ *
+ * Returned: the status, and x, y, z in au.
+ *   0                x, y, z are the counts below made doubles, each then
+ *                    divided once by 10000000
+ *   1, 11, 2, 3, 4   x, y, z are 0.0
+ *   The first refusal that applies, in this order.
+ *
+ * Note: with table 1 this is lindenbrood_place.  In HEE and HEEQ the Earth's
+ * place is by the table named too.
+ */
+lindenbrood_place_answer lindenbrood_place_by_table(lindenbrood_date date,
+                                                    int64_t table, int64_t body,
+                                                    int64_t frame);
+
+/*
+ * lindenbrood_counts_by_table
+ *
+ * The same place in counts of 10^-7 au.
+ *
+ * Given: as above.
+ *
+ * Returned: the status, and x, y, z in 10^-7 au.
+ *   0                the place
+ *   1, 11, 2, 3, 4   x, y, z are 0
+ *   The first refusal that applies, in this order.
+ *
+ * Note: with table 1 this is lindenbrood_counts.
+ */
+lindenbrood_vector_answer lindenbrood_counts_by_table(lindenbrood_date date,
+                                                      int64_t table, int64_t body,
+                                                      int64_t frame);
+
 /* ------------------------------------------------------------------------
  * Vectors turned
  * ------------------------------------------------------------------------ */
@@ -448,6 +517,32 @@ lindenbrood_vector_answer lindenbrood_counts(lindenbrood_date date, int64_t body
 lindenbrood_vector_answer lindenbrood_turn(lindenbrood_date date, int64_t from,
                                            int64_t to, int64_t x, int64_t y,
                                            int64_t z);
+
+/*
+ * lindenbrood_turn_by_table
+ *
+ * A vector of one frame, as it is in another on a date, with the Earth of HEE
+ * and HEEQ by the table named.
+ *
+ * Given:
+ *   date      a Julian date or minutes, see DATES
+ *   table     1 or 2, see TABLES; date and table are tested for every pair of
+ *             frames, though only HEE and HEEQ depend on them
+ *   from, to  frames, 1 to 5
+ *   x, y, z   the vector in frame `from`, each part within +-500000000
+ *             (10^-7 au, or whatever unit the vector is counted in)
+ *
+ * Returned: the status, and the vector in frame `to`, in the unit given.
+ *   0                the vector; a frame to itself leaves it unchanged
+ *   1, 11, 2, 4, 5   x, y, z are 0
+ *   The first refusal that applies, in this order.
+ *
+ * Note: with table 1 this is lindenbrood_turn, whose note holds for both tables.
+ */
+lindenbrood_vector_answer lindenbrood_turn_by_table(lindenbrood_date date,
+                                                    int64_t table, int64_t from,
+                                                    int64_t to, int64_t x,
+                                                    int64_t y, int64_t z);
 
 /*
  * lindenbrood_to_rtn, lindenbrood_from_rtn
@@ -494,11 +589,37 @@ lindenbrood_vector_answer lindenbrood_from_rtn(int64_t rx, int64_t ry, int64_t r
 lindenbrood_elements_answer lindenbrood_elements(lindenbrood_date date, int64_t body);
 
 /*
+ * lindenbrood_elements_by_table
+ *
+ * The six elements of a body on a date by the table named.
+ *
+ * Given:
+ *   date    a Julian date or minutes, see DATES
+ *   table   1 or 2, see TABLES
+ *   body    1 to 9
+ *
+ * Returned: the status, and the elements, each
+ * x0 + floor(rate * m / 52596000) in hundred-millionths, m being the minute;
+ * x0 and rate are those of Table 1, or of Table 2a.
+ *   0             the elements
+ *   1, 11, 2, 3   all six are 0
+ *   The first refusal that applies, in this order.
+ *
+ * Note: with table 1 this is lindenbrood_elements.  The further terms of Table
+ * 2b are in the mean anomaly and not in the elements.
+ */
+lindenbrood_elements_answer lindenbrood_elements_by_table(lindenbrood_date date,
+                                                          int64_t table,
+                                                          int64_t body);
+
+/*
  * lindenbrood_mean_anomaly
  *
  * The mean anomaly of a body on a date.
  *
- * Given: as above.
+ * Given:
+ *   date    a Julian date or minutes, see DATES
+ *   body    1 to 9
  *
  * Returned: the status, and the angle in millionths of a degree.
  *   0         the mean anomaly, from -180000000 up to but without 180000000
@@ -506,6 +627,30 @@ lindenbrood_elements_answer lindenbrood_elements(lindenbrood_date date, int64_t 
  *   The first refusal that applies, in this order.
  */
 lindenbrood_angle_answer lindenbrood_mean_anomaly(lindenbrood_date date, int64_t body);
+
+/*
+ * lindenbrood_mean_anomaly_by_table
+ *
+ * The mean anomaly of a body on a date by the table named.
+ *
+ * Given:
+ *   date    a Julian date or minutes, see DATES
+ *   table   1 or 2, see TABLES
+ *   body    1 to 9
+ *
+ * Returned: the status, and the angle in millionths of a degree.
+ *   0             the mean anomaly, from -180000000 up to but without 180000000
+ *   1, 11, 2, 3   0
+ *   The first refusal that applies, in this order.
+ *
+ * Note: with table 1 this is lindenbrood_mean_anomaly.  By table 2 the terms
+ * b T^2 + c cos(fT) + s sin(fT) of Table 2b are added for Jupiter to Neptune,
+ * and b T^2 for Pluto, so that for these five bodies it is not just the mean
+ * longitude minus the longitude of perihelion.
+ */
+lindenbrood_angle_answer lindenbrood_mean_anomaly_by_table(lindenbrood_date date,
+                                                           int64_t table,
+                                                           int64_t body);
 
 /*
  * lindenbrood_eccentric_anomaly

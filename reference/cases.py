@@ -1,4 +1,4 @@
-"""Inputs for compare.py: the edges that document 01 names, and seeded chance.
+"""Inputs for compare.py: the edges that documents 01 and 02 name, and seeded chance.
 
 A function named some_... takes a random.Random and answers one input; most
 inputs are such as document 01 accepts, the others are just outside or wild.
@@ -6,6 +6,7 @@ inputs are such as document 01 accepts, the others are just outside or wild.
 
 import math
 import struct
+from collections import namedtuple
 
 import exact as x
 
@@ -110,15 +111,24 @@ JULIAN_EDGES = (math.nan, -math.nan, math.inf, -math.inf, 0.0, -0.0, 5e-324, -5e
                 2.0**-1022, 1e308, -1e308, 1.7976931348623157e308,
                 2451545.015625, 2451544.984375, 2469808.0, 2378496.5, 2469807.5)
 
+# What a table's dates are drawn from: its first and last minute, Julian dates that
+# are edges, the days around its interval, and the 64ths of a day from J2000.
+Span = namedtuple("Span", "first last edges days sixty_fourths")
+SPANS = {1: Span(*x.INTERVALS[1], JULIAN_EDGES,
+                 (2378496, 2469808), (-4_700_000, 1_200_000)),
+         2: Span(*x.INTERVALS[2], JULIAN_EDGES + (625673.5, 2816787.5, 2816788.0),
+                 (625673, 2816788), (-117_000_000, 23_500_000))}
 
-def some_minute(chance):
-    """Mostly in the interval; else an end or its neighbour, or any."""
+
+def some_minute(chance, table=1):
+    """Mostly in the table's interval; else an end or its neighbour, or any."""
+    span = SPANS[table]
     kind = chance.randrange(20)
     if kind == 0:
         return some_i64(chance)
     if kind < 3:
-        return chance.choice((x.FIRST_MINUTE, x.LAST_MINUTE, 0)) + chance.randint(-2, 2)
-    return chance.randint(x.FIRST_MINUTE, x.LAST_MINUTE)
+        return chance.choice((span.first, span.last, 0)) + chance.randint(-2, 2)
+    return chance.randint(span.first, span.last)
 
 
 def near_julian(chance, minute):
@@ -129,25 +139,27 @@ def near_julian(chance, minute):
     return julian
 
 
-def some_julian(chance):
-    """Mostly in the interval; half minutes, both ends, all bits, special ones."""
+def some_julian(chance, table=1):
+    """Mostly in the table's interval; half minutes, both ends, all bits, edges."""
+    span = SPANS[table]
     kind = chance.randrange(20)
     if kind == 0:
-        return chance.choice(JULIAN_EDGES)
+        return chance.choice(span.edges)
     if kind < 3:
         return struct.unpack("<d", chance.randbytes(8))[0]
     if kind < 5:
-        end = chance.choice((x.FIRST_MINUTE, x.LAST_MINUTE + 1))
+        end = chance.choice((span.first, span.last + 1))
         return near_julian(chance, end + chance.randint(-1, 1))
     if kind < 10:
-        return near_julian(chance, chance.randint(x.FIRST_MINUTE, x.LAST_MINUTE))
+        return near_julian(chance, chance.randint(span.first, span.last))
     if kind < 12:       # half minutes that a double holds exactly are 64ths of a day
-        return x.EPOCH + chance.randint(-4_700_000, 1_200_000) / 64
-    return chance.uniform(2378496, 2469808)
+        return x.EPOCH + chance.randint(*span.sixty_fourths) / 64
+    return chance.uniform(*span.days)
 
 
-def some_date(chance):
-    return some_julian(chance) if chance.random() < 0.4 else some_minute(chance)
+def some_date(chance, table=1):
+    some = some_julian if chance.random() < 0.4 else some_minute
+    return some(chance, table)
 
 
 def some_number(chance, last):
@@ -166,6 +178,39 @@ def some_body(chance):
 
 def some_frame(chance):
     return some_number(chance, 5)
+
+
+# ---------------------------------------------------------------------- tables
+
+TABLES_TRIED = (1, 2, -1, 0, 3, LEAST, MOST)
+# Both ends of both intervals and one minute beyond each.
+END_MINUTES = tuple(minute for first, last in x.INTERVALS.values()
+                    for minute in (first - 1, first, last, last + 1))
+NOT_FINITE = (math.nan, math.inf, -math.inf)
+TABLE_DATES = (*END_MINUTES, *(x.EPOCH + minute / 1440 for minute in END_MINUTES),
+               0, LEAST, MOST, *NOT_FINITE)
+
+
+def some_other_table(chance):
+    """Hardly ever a table: near 1 and 2, their low bits with more above, or any."""
+    return chance.choice((0, 3, -1, -2, 256, 257, 258, 2**32 + 1, 2**32 + 2,
+                          some_i64(chance)))
+
+
+def some_date_by_table(chance, table):
+    """A date for a named table; one in ten is drawn from the other's interval."""
+    return some_date(chance, 3 - table if chance.randrange(10) == 0 else table)
+
+
+def cases_by_table(chance, count, *makers):
+    """(date, table, ...), count for each table in turn; one in 41 names another."""
+    for number in range(count):
+        for table in (1, 2):
+            yield (some_date_by_table(chance, table), table,
+                   *(make(chance) for make in makers))
+        if number % 20 == 0:
+            yield (some_date(chance, 2), some_other_table(chance),
+                   *(make(chance) for make in makers))
 
 
 # --------------------------------------------------------------------- vectors

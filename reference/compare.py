@@ -4,8 +4,10 @@
     python3 compare.py LIB WHAT [COUNT] [SEED]
 
 LIB is the shared library; WHAT is one of sines, solver, dates, elements,
-places, turns, rtn, rows, sheets, roundtrip, or all.  COUNT is the number of
-cases (rtn: that many there and that many back), SEED the start of chance.
+places, turns, rtn, rows, sheets, roundtrip, tables_elements, tables_places,
+tables_turns, or all.  COUNT is the number of cases (rtn: that many there and
+that many back; tables_...: that many for each table, beside the edges), SEED
+the start of chance.
 One line is printed for each comparison, and the first few differences.
 Exit status: 1 if anything differs, else 2 if anything was skipped, else 0.
 """
@@ -214,6 +216,51 @@ def compare_roundtrip(library, tally, count, chance):
               f"difference in x, y, z: {most[0]} {most[1]} {most[2]}")
 
 
+def compare_tables_elements(library, tally, count, chance):
+    """02, Item 1: elements and mean anomaly by a named table."""
+    elements = library.dated("elements_by_table")
+    mean = library.dated("mean_anomaly_by_table")
+    edges = itertools.product(cases.TABLE_DATES, cases.TABLES_TRIED, range(11))
+    source = cases.cases_by_table(chance, count, cases.some_body)
+    for date, table, body in itertools.chain(edges, source):
+        tally.check((date, table, body),
+                    (elements(date, table, body), mean(date, table, body)),
+                    (x.elements_answer(date, body, table),
+                     x.mean_anomaly_answer(date, body, table)))
+
+
+def compare_tables_places(library, tally, count, chance):
+    """02, Item 1: places by a named table, counts and doubles bit by bit."""
+    counts, place = library.dated("counts_by_table"), library.dated("place_by_table")
+    edges = itertools.product(cases.TABLE_DATES, cases.TABLES_TRIED, range(11), range(7))
+    source = cases.cases_by_table(chance, count, cases.some_body, cases.some_frame)
+    for date, table, body, frame in itertools.chain(edges, source):
+        asked = date, table, body, frame
+        tally.check(asked, (counts(*asked), bits(place(*asked))),
+                    (x.place_answer(date, body, frame, table),
+                     bits(x.place_in_au(date, body, frame, table))))
+
+
+def table_turn_edges():
+    """Every pair of frames by every table tried, at the ends and beyond them."""
+    limit = x.PART_LIMIT
+    vectors = (limit, -limit, limit), (-limit, limit, -limit), (0, limit + 1, 0)
+    dates = (*cases.END_MINUTES, *cases.NOT_FINITE)
+    return itertools.product(dates, cases.TABLES_TRIED, range(7), range(7), vectors)
+
+
+def compare_tables_turns(library, tally, count, chance):
+    """02, Item 1: the Earth of a turn comes from the named table."""
+    turn = library.dated("turn_by_table")
+    source = cases.cases_by_table(chance, count, cases.some_frame, cases.some_frame,
+                                  cases.some_vector)
+    for date, table, source_frame, target, vector in itertools.chain(
+            table_turn_edges(), source):
+        tally.check((date, table, source_frame, target, vector),
+                    turn(date, table, source_frame, target, *vector),
+                    x.turn_answer(date, source_frame, target, vector, table))
+
+
 # name: (comparison, its usual number of cases)
 COMPARISONS = {
     "sines": (compare_sines, 200_000),
@@ -226,6 +273,9 @@ COMPARISONS = {
     "rows": (compare_rows, 200_000),
     "sheets": (compare_sheets, 2_000),
     "roundtrip": (compare_roundtrip, 100_000),
+    "tables_elements": (compare_tables_elements, 20_000),
+    "tables_places": (compare_tables_places, 20_000),
+    "tables_turns": (compare_tables_turns, 20_000),
 }
 
 

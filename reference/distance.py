@@ -1,15 +1,19 @@
 #!/usr/bin/env python3
 """How far the exact places lie from places worked out in double precision.
 
-    python3 distance.py [DATES]              beside double.c, per body
-    python3 distance.py --true-sine [DATES]  the same without document 01's sine table
-    python3 distance.py --picture FILE.svg   the same as a picture over the years
-    python3 distance.py --plan94 [DATES]     beside ERFA's eraPlan94 (plan94.c)
-    python3 distance.py --lengths [DATES]    the least L of HEE's and HEEQ's vectors
+    python3 distance.py [DATES]                    beside double.c, per body
+    python3 distance.py --true-sine [DATES]        the same without 01's sine table
+    python3 distance.py --picture FILE.svg         the first as a picture over the years
+    python3 distance.py --plan94 [DATES]           beside ERFA's eraPlan94 (plan94.c)
+    python3 distance.py --lengths [DATES]          the least L of HEE's and HEEQ's vectors
+    python3 distance.py --between-tables [DATES]   table 1 beside table 2, per body
+    python3 distance.py --picture-tables FILE.svg  the same as a picture over the years
 
-The C sources are built with cc into a temporary folder; --plan94 needs
-Debian's liberfa-dev.  The dates are spread over document 01's whole interval:
-both ends, and one at random in each of DATES equal parts.
+Those without a picture that work with one table take --table 2 too.  The C
+sources are built with cc into a temporary folder; --plan94 needs Debian's
+liberfa-dev.  The dates are spread over the table's whole interval, and over table
+1's, which lies within table 2's, where both are asked: both ends, and one at
+random in each of DATES equal parts.
 """
 
 import argparse
@@ -39,31 +43,34 @@ def build(folder, name, *libraries):
     return ctypes.CDLL(path)
 
 
-def place_function(library, name):
-    """A C function (minutes, body, out[3]) as a Python function to a tuple."""
+def place_function(library, name, *table):
+    """A C function (minutes, body, out[3]) as a Python function to a tuple.
+
+    Where a table is given, the C function takes it after the minutes.
+    """
     call = getattr(library, name)
-    call.argtypes = [ctypes.c_double, ctypes.c_int, ctypes.POINTER(ctypes.c_double)]
+    call.argtypes = [ctypes.c_double, *(ctypes.c_int for _ in table), ctypes.c_int,
+                     ctypes.POINTER(ctypes.c_double)]
     call.restype = ctypes.c_int
 
     def place(minute, body):
         out = (ctypes.c_double * 3)()
-        call(minute, body, out)
+        call(minute, *table, body, out)
         return tuple(out)
     return place
 
 
-def spread_minutes(count, seed=1):
+def spread_minutes(count, table=1, seed=1):
     """Both ends, and one random minute in each of count equal parts."""
     chance = random.Random(seed)
-    width = exact.LAST_MINUTE - exact.FIRST_MINUTE
-    inner = [exact.FIRST_MINUTE + int(width * (k + chance.random()) / count)
+    first, last = exact.INTERVALS[table]
+    inner = [first + int((last - first) * (k + chance.random()) / count)
              for k in range(count)]
-    return [exact.FIRST_MINUTE, *inner, exact.LAST_MINUTE]
+    return [first, *inner, last]
 
 
-def difference(counts, au):
+def difference(counts, other):
     """The distance in 10^-7 au, and the angle at the Sun in seconds of arc."""
-    other = [part * exact.AU for part in au]
     apart = math.dist(counts, other)
     cross = (counts[1] * other[2] - counts[2] * other[1],
              counts[2] * other[0] - counts[0] * other[2],
@@ -72,12 +79,25 @@ def difference(counts, au):
     return apart, math.atan2(math.hypot(*cross), dot) * ARC_SECONDS
 
 
-def distances(place, body, frame, minutes):
+def accepted_place(minute, body, frame, table):
+    status, *counts = exact.place_answer(minute, body, frame, table)
+    assert status == 0
+    return counts
+
+
+def distances(place, body, frame, minutes, table=1):
     """(minute, distance, angle) of one body at each minute."""
     for minute in minutes:
-        status, *counts = exact.place_answer(minute, body, frame)
-        assert status == 0
-        yield minute, *difference(counts, place(minute, body))
+        counts = accepted_place(minute, body, frame, table)
+        other = [part * exact.AU for part in place(minute, body)]
+        yield minute, *difference(counts, other)
+
+
+def between_tables(body, minutes):
+    """(minute, distance, angle) between one body's places by tables 1 and 2."""
+    for minute in minutes:
+        yield minute, *difference(*(accepted_place(minute, body, exact.HAE, table)
+                                    for table in (1, 2)))
 
 
 def greatest(found):
@@ -94,41 +114,53 @@ def use_true_sine():
     exact.SOLAR_AXIS = exact.HCI_ROWS[2]
 
 
-def report_double(count):
+def report_double(count, table):
     with tempfile.TemporaryDirectory() as folder:
         library = build(folder, "double")
-        places = {exact.HAE: place_function(library, "double_place"),
-                  exact.HEEQ: place_function(library, "double_heeq")}
-        minutes = spread_minutes(count)
-        print(f"greatest distances over {len(minutes)} dates, exact beside double")
+        places = {exact.HAE: place_function(library, "double_place_by_table", table),
+                  exact.HEEQ: place_function(library, "double_heeq_by_table", table)}
+        minutes = spread_minutes(count, table)
+        print(f"greatest distances over {len(minutes)} dates, exact beside double, "
+              f"table {table}")
         print("body     HAE 1e-7 au   HAE arc sec  HEEQ 1e-7 au  HEEQ arc sec")
         for body, name in enumerate(exact.NAMES, 1):
-            row = [part for frame, place in places.items()
-                   for part in greatest(distances(place, body, frame, minutes))]
+            row = [part for frame, place in places.items() for part in greatest(
+                distances(place, body, frame, minutes, table))]
             print(f"{name:8} {row[0]:11.1f} {row[1]:13.3f} "
                   f"{row[2]:13.1f} {row[3]:13.3f}")
 
 
-def report_plan94(count):
+def report_plan94(count, table):
     with tempfile.TemporaryDirectory() as folder:
         place = place_function(build(folder, "plan94", "-lerfa"), "plan94_place")
-        minutes = spread_minutes(count)
-        print(f"greatest distances over {len(minutes)} dates, exact beside eraPlan94")
+        minutes = spread_minutes(count, table)
+        print(f"greatest distances over {len(minutes)} dates, exact beside eraPlan94, "
+              f"table {table}")
         print("body        1e-7 au     arc sec")
         for body, name in enumerate(exact.NAMES[:8], 1):
-            apart, angle = greatest(distances(place, body, exact.HAE, minutes))
+            apart, angle = greatest(
+                distances(place, body, exact.HAE, minutes, table))
             print(f"{name:8} {apart:10.0f} {angle:11.1f}")
 
 
-def report_lengths(count):
-    """HEE and HEEQ divide by these; document 01 has no refusal for zero."""
+def report_between_tables(count):
     minutes = spread_minutes(count)
-    earths = [exact.place_in_hae(minute, exact.EARTH) for minute in minutes]
+    print(f"greatest distances over {len(minutes)} dates, table 1 beside table 2")
+    print("body        1e-7 au     arc sec")
+    for body, name in enumerate(exact.NAMES, 1):
+        apart, angle = greatest(between_tables(body, minutes))
+        print(f"{name:8} {apart:10.0f} {angle:11.1f}")
+
+
+def report_lengths(count, table):
+    """HEE and HEEQ divide by these; document 01 has no refusal for zero."""
+    minutes = spread_minutes(count, table)
+    earths = [exact.place_in_hae(minute, exact.EARTH, table) for minute in minutes]
     flat = min(exact.length((x, y, 0)) for x, y, _ in earths)
     across = min(exact.length(exact.cross_product(exact.SOLAR_AXIS,
                                                   exact.unit_vector(earth)))
                  for earth in earths)
-    print(f"least lengths over {len(minutes)} dates")
+    print(f"least lengths over {len(minutes)} dates, table {table}")
     print(f"Earth's (x, y, 0): {flat}")
     print(f"Earth's (x, y, z): {min(map(exact.length, earths))}")
     print(f"S x U:             {across}")
@@ -140,30 +172,57 @@ def draw(path, count):
         minutes = spread_minutes(count)
         curves = [(name, list(distances(place, body, exact.HAE, minutes)))
                   for body, name in enumerate(exact.NAMES, 1)]
+    write_picture(path, curves, picture.BESIDE_DOUBLE)
+
+
+def draw_tables(path, count):
+    minutes = spread_minutes(count)
+    curves = [(name, list(between_tables(body, minutes)))
+              for body, name in enumerate(exact.NAMES, 1)]
+    write_picture(path, curves, picture.BETWEEN_TABLES)
+
+
+def write_picture(path, curves, subject):
     with open(path, "w", encoding="utf-8") as out:
-        out.write(picture.svg(curves))
-    print(f"{path}: {len(minutes)} dates for each of {len(curves)} bodies")
+        out.write(picture.svg(curves, subject))
+    print(f"{path}: {len(curves[0][1])} dates for each of {len(curves)} bodies")
 
 
-def main():
+def arguments():
     parser = argparse.ArgumentParser(description=__doc__.splitlines()[0])
     parser.add_argument("dates", nargs="?", type=int, metavar="DATES")
+    parser.add_argument("--table", type=int, choices=(1, 2), default=1)
     kind = parser.add_mutually_exclusive_group()
     kind.add_argument("--picture", metavar="FILE.svg")
     kind.add_argument("--true-sine", action="store_true")
     kind.add_argument("--plan94", action="store_true")
     kind.add_argument("--lengths", action="store_true")
+    kind.add_argument("--between-tables", action="store_true")
+    kind.add_argument("--picture-tables", metavar="FILE.svg")
     chosen = parser.parse_args()
+    if chosen.table == 2 and (chosen.picture or chosen.between_tables
+                              or chosen.picture_tables):
+        parser.error("no --table beside this one")
+    return chosen
+
+
+def main():
+    chosen = arguments()
+    dates = chosen.dates or 20000
     if chosen.picture:
-        draw(chosen.picture, chosen.dates or 20000)
+        draw(chosen.picture, dates)
     elif chosen.plan94:
-        report_plan94(chosen.dates or 500)
+        report_plan94(chosen.dates or 500, chosen.table)
     elif chosen.lengths:
-        report_lengths(chosen.dates or 20000)
+        report_lengths(dates, chosen.table)
+    elif chosen.between_tables:
+        report_between_tables(dates)
+    elif chosen.picture_tables:
+        draw_tables(chosen.picture_tables, dates)
     else:
         if chosen.true_sine:
             use_true_sine()
-        report_double(chosen.dates or 20000)
+        report_double(dates, chosen.table)
 
 
 if __name__ == "__main__":

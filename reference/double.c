@@ -8,6 +8,7 @@
 #define CENTURY 52596000.0 /* minutes */
 #define TOLERANCE 1e-6     /* degrees, 002's own */
 #define EARTH 3
+#define JUPITER 5          /* the first body with terms in Table 2b */
 
 /* 000 (14) at J2000: the solar equator on the ecliptic. */
 #define SOLAR_NODE (75.76 * RADIANS)
@@ -35,13 +36,63 @@ static const double table_1[9][2][6] = {
      {-0.00031596, 0.00005170, 0.00004818, 145.20780515, -0.04062942, -0.01183482}},
 };
 
-void double_elements(double minutes, int body, double out[6])
+/* Table 2a of 002, in the same way. */
+static const double table_2a[9][2][6] = {
+    {{0.38709843, 0.20563661, 7.00559432, 252.25166724, 77.45771895, 48.33961819},
+     {0.00000000, 0.00002123, -0.00590158, 149472.67486623, 0.15940013, -0.12214182}},
+    {{0.72332102, 0.00676399, 3.39777545, 181.97970850, 131.76755713, 76.67261496},
+     {-0.00000026, -0.00005107, 0.00043494, 58517.81560260, 0.05679648, -0.27274174}},
+    {{1.00000018, 0.01673163, -0.00054346, 100.46691572, 102.93005885, -5.11260389},
+     {-0.00000003, -0.00003661, -0.01337178, 35999.37306329, 0.31795260, -0.24123856}},
+    {{1.52371243, 0.09336511, 1.85181869, -4.56813164, -23.91744784, 49.71320984},
+     {0.00000097, 0.00009149, -0.00724757, 19140.29934243, 0.45223625, -0.26852431}},
+    {{5.20248019, 0.04853590, 1.29861416, 34.33479152, 14.27495244, 100.29282654},
+     {-0.00002864, 0.00018026, -0.00322699, 3034.90371757, 0.18199196, 0.13024619}},
+    {{9.54149883, 0.05550825, 2.49424102, 50.07571329, 92.86136063, 113.63998702},
+     {-0.00003065, -0.00032044, 0.00451969, 1222.11494724, 0.54179478, -0.25015002}},
+    {{19.18797948, 0.04685740, 0.77298127, 314.20276625, 172.43404441, 73.96250215},
+     {-0.00020455, -0.00001550, -0.00180155, 428.49512595, 0.09266985, 0.05739699}},
+    {{30.06952752, 0.00895439, 1.77005520, 304.22289287, 46.68158724, 131.78635853},
+     {0.00006447, 0.00000818, 0.00022400, 218.46515314, 0.01009938, -0.00606302}},
+    {{39.48686035, 0.24885238, 17.14104260, 238.96535011, 224.09702598, 110.30167986},
+     {0.00449751, 0.00006016, 0.00000501, 145.18042903, -0.00968827, -0.00809981}},
+};
+
+/* Table 2b of 002: b, c, s, f of Jupiter to Pluto, which has b only. */
+static const double table_2b[5][4] = {
+    {-0.00012452, 0.06064060, -0.35635438, 38.35125000},
+    {0.00025899, -0.13434469, 0.87320147, 38.35125000},
+    {0.00058331, -0.97731848, 0.17689245, 7.67025000},
+    {-0.00041348, 0.68346318, -0.10162547, 7.67025000},
+    {-0.01262724, 0.0, 0.0, 0.0},
+};
+
+static void elements_of(const double row[2][6], double minutes, double out[6])
 {
-    const double (*row)[6] = table_1[body - 1];
     double t = minutes / CENTURY;
 
     for (int i = 0; i < 6; i++)
         out[i] = row[0][i] + row[1][i] * t;
+}
+
+void double_elements(double minutes, int body, double out[6])
+{
+    elements_of(table_1[body - 1], minutes, out);
+}
+
+void double_elements_by_table(double minutes, int table, int body, double out[6])
+{
+    elements_of(table == 2 ? table_2a[body - 1] : table_1[body - 1], minutes, out);
+}
+
+/* The last three terms of (8-30), degrees. */
+static double extra_terms(double minutes, int body)
+{
+    const double *row = table_2b[body - JUPITER];
+    double t = minutes / CENTURY;
+    double angle = row[3] * t * RADIANS;
+
+    return row[0] * t * t + row[1] * cos(angle) + row[2] * sin(angle);
 }
 
 double double_kepler(double e, double mean_anomaly)
@@ -65,18 +116,17 @@ static double one_turn(double angle)
     return angle - 360.0 * floor((angle + 180.0) / 360.0);
 }
 
-void double_place(double minutes, int body, double out[3])
+/* Steps 3 to 5.  Given: the elements, M of any size. */
+static void place_of(const double element[6], double mean_anomaly, double out[3])
 {
-    double element[6];
     double a, e, anomaly, x, y, arg, node, tilt;
 
-    double_elements(minutes, body, element);
     a = element[0];
     e = element[1];
     tilt = element[2] * RADIANS;
     arg = (element[4] - element[5]) * RADIANS;
     node = element[5] * RADIANS;
-    anomaly = double_kepler(e, one_turn(element[3] - element[4])) * RADIANS;
+    anomaly = double_kepler(e, one_turn(mean_anomaly)) * RADIANS;
 
     x = a * (cos(anomaly) - e);                  /* (8-32) */
     y = a * sqrt(1.0 - e * e) * sin(anomaly);
@@ -88,6 +138,25 @@ void double_place(double minutes, int body, double out[3])
     out[0] = (cw * cn - sw * sn * ci) * x + (-sw * cn - cw * sn * ci) * y;
     out[1] = (cw * sn + sw * cn * ci) * x + (-sw * sn + cw * cn * ci) * y;
     out[2] = (sw * si) * x + (cw * si) * y;
+}
+
+void double_place(double minutes, int body, double out[3])
+{
+    double element[6];
+
+    double_elements(minutes, body, element);
+    place_of(element, element[3] - element[4], out);
+}
+
+void double_place_by_table(double minutes, int table, int body, double out[3])
+{
+    double element[6], mean_anomaly;
+
+    double_elements_by_table(minutes, table, body, element);
+    mean_anomaly = element[3] - element[4];
+    if (table == 2 && body >= JUPITER)
+        mean_anomaly += extra_terms(minutes, body);
+    place_of(element, mean_anomaly, out);
 }
 
 /* 000's E(node, tilt, 0): HAE of J2000 to HCI. */
@@ -105,17 +174,34 @@ static void hci_of_hae(const double v[3], double out[3])
  * Theta is the Earth's longitude from the node along the solar equator.  000
  * (17) takes it from the Earth's longitude alone; here the Earth's small
  * latitude on the J2000 ecliptic is kept, as document 01's rule keeps it. */
-void double_heeq(double minutes, int body, double out[3])
+static void heeq_of(const double earth_hae[3], const double hae[3], double out[3])
 {
-    double hae[3], hci[3], earth[3], theta;
+    double hci[3], earth[3], theta;
 
-    double_place(minutes, EARTH, hae);
-    hci_of_hae(hae, earth);
+    hci_of_hae(earth_hae, earth);
     theta = atan2(earth[1], earth[0]);
-    if (body != EARTH)
-        double_place(minutes, body, hae);
     hci_of_hae(hae, hci);
     out[0] = cos(theta) * hci[0] + sin(theta) * hci[1];
     out[1] = -sin(theta) * hci[0] + cos(theta) * hci[1];
     out[2] = hci[2];
+}
+
+void double_heeq(double minutes, int body, double out[3])
+{
+    double earth[3], other[3];
+
+    double_place(minutes, EARTH, earth);
+    if (body != EARTH)
+        double_place(minutes, body, other);
+    heeq_of(earth, body != EARTH ? other : earth, out);
+}
+
+void double_heeq_by_table(double minutes, int table, int body, double out[3])
+{
+    double earth[3], other[3];
+
+    double_place_by_table(minutes, table, EARTH, earth);
+    if (body != EARTH)
+        double_place_by_table(minutes, table, body, other);
+    heeq_of(earth, body != EARTH ? other : earth, out);
 }

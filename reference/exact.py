@@ -1,12 +1,14 @@
 #!/usr/bin/env python3
-"""Document 01 in whole numbers of any size: the exact reference program.
+"""Documents 01 and 02 in whole numbers of any size: the exact reference program.
 
-Every definition stands here in document 01's words and order.  Only whole
+Every definition stands here in document 01's words and order, and what one of
+document 02's items changes names that item.  So far: 02, Item 1.  Only whole
 numbers and fractions are used, except for a Julian date that arrives as a
 double and a place that leaves as doubles.  Sources: 002 (Standish) for the
 elements and steps, 000 (Fraenz and Harper) for the frames, 003 for RTN.
 
 A date is a Python float (a Julian date) or a Python int (whole minutes).
+A table is 1 or 2, the last argument of a dated call, which may leave it out.
 An answer is a tuple whose first part is the status: 0, or the refusal's
 number.  Every function takes any integers.
 
@@ -27,8 +29,11 @@ from fractions import Fraction
 UNIT = 10**9                    # the 1 of sines, coefficients and unit vectors
 EPOCH = 2451545                 # JD of minute 0, ephemeris time
 CENTURY = 52_596_000            # minutes in a century
-FIRST_MINUTE = -105_189_840     # JD 2378496.5, accepted
-LAST_MINUTE = 26_298_000        # JD 2469807.5, accepted
+DEFAULT_TABLE = 1               # "a call that names none gets table 1" (02, Item 1)
+INTERVALS = {                   # each table's first and last minute, both accepted
+    1: (-105_189_840, 26_298_000),          # JD 2378496.5 to JD 2469807.5
+    2: (-2_629_254_960, 525_949_200)}       # JD 625673.5 to JD 2816787.5
+FIRST_MINUTE, LAST_MINUTE = INTERVALS[1]
 AU = 10**7                      # lengths are counted in 10^-7 au
 DEGREE = 10**6                  # angles are counted in millionths of a degree
 TURN = 360 * DEGREE
@@ -69,12 +74,18 @@ def minute_of(date):
     return minute_of_julian(date) if isinstance(date, float) else date
 
 
-def date_status(date):
-    """Refusals 1 and 2; the interval is tested on the rounded minute."""
+def date_status(date, table=DEFAULT_TABLE):
+    """Refusals 1, 11 and 2, the first that applies (02, Item 1).
+
+    2 speaks of the named table's interval, tested on the rounded minute.
+    """
     minute = minute_of(date)
     if minute is None:
         return 1
-    return 0 if FIRST_MINUTE <= minute <= LAST_MINUTE else 2
+    if table not in INTERVALS:
+        return 11
+    first, last = INTERVALS[table]
+    return 0 if first <= minute <= last else 2
 
 
 # --------------------------------------------------------------------------
@@ -130,6 +141,8 @@ def cosine(angle):
 # --------------------------------------------------------------------------
 
 Elements = namedtuple("Elements", "a e inclination mean_longitude perihelion node")
+Terms = namedtuple("Terms", "b c s f")      # what M has beside L and perihelion
+ElementTable = namedtuple("ElementTable", "orbits terms")
 
 # Table 1 of 002 as printed: elements at J2000, then their rates a century.
 TABLE_1 = """
@@ -153,6 +166,37 @@ Pluto   39.48211675  0.24882730 17.14001206 238.92903833 224.06891629 110.303936
         -0.00031596  0.00005170  0.00004818  145.20780515 -0.04062942 -0.01183482
 """
 
+# Table 2a of 002 as printed, in the same way (02, Item 1).
+TABLE_2A = """
+Mercury  0.38709843  0.20563661  7.00559432  252.25166724  77.45771895  48.33961819
+         0.00000000  0.00002123 -0.00590158  149472.67486623  0.15940013 -0.12214182
+Venus    0.72332102  0.00676399  3.39777545  181.97970850 131.76755713  76.67261496
+        -0.00000026 -0.00005107  0.00043494  58517.81560260  0.05679648 -0.27274174
+EM_Bary  1.00000018  0.01673163 -0.00054346  100.46691572 102.93005885  -5.11260389
+        -0.00000003 -0.00003661 -0.01337178  35999.37306329  0.31795260 -0.24123856
+Mars     1.52371243  0.09336511  1.85181869  -4.56813164 -23.91744784  49.71320984
+         0.00000097  0.00009149 -0.00724757  19140.29934243  0.45223625 -0.26852431
+Jupiter  5.20248019  0.04853590  1.29861416  34.33479152  14.27495244 100.29282654
+        -0.00002864  0.00018026 -0.00322699  3034.90371757  0.18199196  0.13024619
+Saturn   9.54149883  0.05550825  2.49424102  50.07571329  92.86136063 113.63998702
+        -0.00003065 -0.00032044  0.00451969  1222.11494724  0.54179478 -0.25015002
+Uranus  19.18797948  0.04685740  0.77298127 314.20276625 172.43404441  73.96250215
+        -0.00020455 -0.00001550 -0.00180155  428.49512595  0.09266985  0.05739699
+Neptune 30.06952752  0.00895439  1.77005520 304.22289287  46.68158724 131.78635853
+         0.00006447  0.00000818  0.00022400  218.46515314  0.01009938 -0.00606302
+Pluto   39.48686035  0.24885238 17.14104260 238.96535011 224.09702598 110.30167986
+         0.00449751  0.00006016  0.00000501  145.18042903 -0.00968827 -0.00809981
+"""
+
+# Table 2b of 002 as printed: b, c, s, f; "Pluto has b only".
+TABLE_2B = """
+Jupiter -0.00012452  0.06064060 -0.35635438 38.35125000
+Saturn   0.00025899 -0.13434469  0.87320147 38.35125000
+Uranus   0.00058331 -0.97731848  0.17689245  7.67025000
+Neptune -0.00041348  0.68346318 -0.10162547  7.67025000
+Pluto   -0.01262724
+"""
+
 
 def hundred_millionths(printed):
     """A printed number as its whole count; more decimals would be a slip."""
@@ -162,27 +206,59 @@ def hundred_millionths(printed):
 
 
 def read_table(text):
-    """Bodies 1 to 9 are Table 1's rows in order: (elements, rates) each."""
+    """Bodies 1 to 9 are the table's rows in order: (elements, rates) each."""
     lines = [line.split() for line in text.strip().splitlines()]
     counts = [[hundred_millionths(part) for part in line[-6:]] for line in lines]
     names = [line[0] for line in lines[0::2]]
     return names, list(zip(counts[0::2], counts[1::2]))
 
 
+def read_terms(text, names):
+    """b, c, s, f of each named body; what the text does not print is zero."""
+    rows = {name: [0] * 4 for name in names}
+    for line in text.strip().splitlines():
+        name, *printed = line.split()
+        rows[name][:len(printed)] = map(hundred_millionths, printed)
+    return [Terms(*rows[name]) for name in names]
+
+
 NAMES, ORBITS = read_table(TABLE_1)
+NAMES_2, ORBITS_2 = read_table(TABLE_2A)
+TABLES = {1: ElementTable(ORBITS, read_terms("", NAMES)),     # Table 1 has none
+          2: ElementTable(ORBITS_2, read_terms(TABLE_2B, NAMES_2))}
 EARTH = 3                       # the Earth-Moon barycentre stands for the Earth
 
 
-def elements(minute, body):
+def times_centuries(rate, minute):
+    """Step 1's floor(rate·m / 52,596,000)."""
+    return floor(rate * minute, CENTURY)
+
+
+def elements(minute, body, table=DEFAULT_TABLE):
     """Step 1: element = x0 + floor(rate·m / 52,596,000)."""
-    start, rates = ORBITS[body - 1]
-    return Elements(*(x0 + floor(rate * minute, CENTURY)
+    start, rates = TABLES[table].orbits[body - 1]
+    return Elements(*(x0 + times_centuries(rate, minute)
                       for x0, rate in zip(start, rates)))
 
 
-def mean_anomaly(orbit):
-    """Step 2: L minus the longitude of perihelion, over 100, in one turn."""
-    return one_turn(floor(orbit.mean_longitude - orbit.perihelion, 100))
+def extra_terms(minute, body, table=DEFAULT_TABLE):
+    """b·T² + c·cos(fT) + s·sin(fT) of 002 (8-30) in element counts (02, Item 1).
+
+    b·T² is step 1's floor done twice; fT is it done once, then divided by 100
+    with floor; the others are c∘cos(fT) and s∘sin(fT).
+    """
+    b, c, s, f = TABLES[table].terms[body - 1]
+    angle = floor(times_centuries(f, minute), 100)
+    return (times_centuries(times_centuries(b, minute), minute)
+            + unit_product(c, cosine(angle)) + unit_product(s, sine(angle)))
+
+
+def mean_anomaly(orbit, extra):
+    """Step 2: L minus the longitude of perihelion, over 100, in one turn.
+
+    The extra terms are added in element counts (02, Item 1); Table 1's are zero.
+    """
+    return one_turn(floor(orbit.mean_longitude - orbit.perihelion + extra, 100))
 
 
 def argument_of_perihelion(orbit):
@@ -248,9 +324,9 @@ def eccentric_anomaly_answer(e, mean):
     return 0, best_eccentric_anomaly(e, mean)
 
 
-def place_in_orbit(orbit):
+def place_in_orbit(orbit, mean):
     """Step 4: x' and y' in the orbital plane, in 10^-7 au."""
-    anomaly = best_eccentric_anomaly(orbit.e, mean_anomaly(orbit))
+    anomaly = best_eccentric_anomaly(orbit.e, mean)
     f = whole_root(10**18 - (10 * orbit.e)**2)
     x = floor(orbit.a * (cosine(anomaly) - 10 * orbit.e), 10**10)
     y = unit_product(floor(orbit.a * f, 10**10), sine(anomaly))
@@ -277,32 +353,34 @@ def coefficients(orbit):
          unit_product(cos_w, sin_i) + 0))
 
 
-def place_in_hae(minute, body):
+def place_in_hae(minute, body, table=DEFAULT_TABLE):
     """Steps 1 to 5: the body's place in frame 1."""
-    orbit = elements(minute, body)
-    x, y = place_in_orbit(orbit)
+    orbit = elements(minute, body, table)
+    x, y = place_in_orbit(orbit, mean_anomaly(orbit, extra_terms(minute, body, table)))
     return tuple(floor(p * x + q * y, UNIT) for p, q in coefficients(orbit))
 
 
-def body_status(date, body):
-    """Refusals 1, 2 and 3, the first that applies."""
-    return date_status(date) or (0 if 1 <= body <= 9 else 3)
+def body_status(date, body, table=DEFAULT_TABLE):
+    """Refusals 1, 11, 2 and 3, the first that applies."""
+    return date_status(date, table) or (0 if 1 <= body <= 9 else 3)
 
 
-def elements_answer(date, body):
+def elements_answer(date, body, table=DEFAULT_TABLE):
     """(status, a, e, I, L, longitude of perihelion, node); zeros if refused."""
-    status = body_status(date, body)
+    status = body_status(date, body, table)
     if status:
         return (status,) + (0,) * 6
-    return (0,) + tuple(elements(minute_of(date), body))
+    return (0,) + tuple(elements(minute_of(date), body, table))
 
 
-def mean_anomaly_answer(date, body):
+def mean_anomaly_answer(date, body, table=DEFAULT_TABLE):
     """(status, M in one turn); zero if refused."""
-    status = body_status(date, body)
+    status = body_status(date, body, table)
     if status:
         return status, 0
-    return 0, mean_anomaly(elements(minute_of(date), body))
+    minute = minute_of(date)
+    return 0, mean_anomaly(elements(minute, body, table),
+                           extra_terms(minute, body, table))
 
 
 # --------------------------------------------------------------------------
@@ -380,34 +458,40 @@ def heeq_rows(earth):
     return cross_product(y, SOLAR_AXIS), y, SOLAR_AXIS
 
 
-def frame_rows(minute, frame):
-    """The rows that turn HAE into one of the frames 2 to 5."""
+def frame_rows(minute, frame, table=DEFAULT_TABLE):
+    """The rows that turn HAE into one of the frames 2 to 5.
+
+    The Earth of HEE and HEEQ comes from the named table (02, Item 1).
+    """
     if frame == GEI:
         return GEI_ROWS
     if frame == HCI:
         return HCI_ROWS
-    earth = place_in_hae(minute, EARTH)
+    earth = place_in_hae(minute, EARTH, table)
     return hee_rows(earth) if frame == HEE else heeq_rows(earth)
 
 
-def from_hae(minute, frame, vector):
-    return vector if frame == HAE else apply_rows(frame_rows(minute, frame), vector)
-
-
-def to_hae(minute, frame, vector):
+def from_hae(minute, frame, vector, table=DEFAULT_TABLE):
     if frame == HAE:
         return vector
-    return apply_rows(transposed(frame_rows(minute, frame)), vector)
+    return apply_rows(frame_rows(minute, frame, table), vector)
 
 
-def turn(minute, source, target, vector):
+def to_hae(minute, frame, vector, table=DEFAULT_TABLE):
+    if frame == HAE:
+        return vector
+    return apply_rows(transposed(frame_rows(minute, frame, table)), vector)
+
+
+def turn(minute, source, target, vector, table=DEFAULT_TABLE):
     """Between two frames that are not HAE the vector goes by way of HAE.
 
     A frame to itself leaves the vector unchanged.
     """
     if source == target:
         return vector
-    return from_hae(minute, target, to_hae(minute, source, vector))
+    in_hae = to_hae(minute, source, vector, table)
+    return from_hae(minute, target, in_hae, table)
 
 
 def known_frame(frame):
@@ -418,16 +502,16 @@ def parts_in_limit(*parts):
     return all(-PART_LIMIT <= part <= PART_LIMIT for part in parts)
 
 
-def turn_answer(date, source, target, vector):
-    """(status, x, y, z): refusals 1, 2, 4, 5, the date tested for every pair."""
-    status = date_status(date)
+def turn_answer(date, source, target, vector, table=DEFAULT_TABLE):
+    """(status, x, y, z): refusals 1, 11, 2, 4, 5, the date tested for every pair."""
+    status = date_status(date, table)
     if not status and not (known_frame(source) and known_frame(target)):
         status = 4
     if not status and not parts_in_limit(*vector):
         status = 5
     if status:
         return status, 0, 0, 0
-    return (0,) + tuple(turn(minute_of(date), source, target, tuple(vector)))
+    return (0,) + tuple(turn(minute_of(date), source, target, tuple(vector), table))
 
 
 def rtn_rows(place):
@@ -465,18 +549,19 @@ def from_rtn_answer(place, vector):
     return rtn_answer(place, vector, back=True)
 
 
-def place_answer(date, body, frame):
-    """(status, x, y, z) for a date, a body and a frame: refusals 1, 2, 3, 4."""
-    status = body_status(date, body) or (0 if known_frame(frame) else 4)
+def place_answer(date, body, frame, table=DEFAULT_TABLE):
+    """(status, x, y, z) for a date, a body and a frame: refusals 1, 11, 2, 3, 4."""
+    status = body_status(date, body, table) or (0 if known_frame(frame) else 4)
     if status:
         return status, 0, 0, 0
     minute = minute_of(date)
-    return (0,) + tuple(from_hae(minute, frame, place_in_hae(minute, body)))
+    place = place_in_hae(minute, body, table)
+    return (0,) + tuple(from_hae(minute, frame, place, table))
 
 
-def place_in_au(date, body, frame):
+def place_in_au(date, body, frame, table=DEFAULT_TABLE):
     """Three doubles: the whole count made a double, then one division."""
-    status, *counts = place_answer(date, body, frame)
+    status, *counts = place_answer(date, body, frame, table)
     return (status,) + tuple(float(count) / 10_000_000.0 for count in counts)
 
 
@@ -486,6 +571,7 @@ def place_in_au(date, body, frame):
 
 ROW_SIZE = 38                   # bytes of a row
 ROW_HEAD = b"\x00\x24\x01"      # length 36 in two bytes, version 1
+ROW_TABLE = 1                   # "Rows and sheets stay with table 1" (02, Item 1)
 Row = namedtuple("Row", "status body frame minutes x y z")
 
 
@@ -497,7 +583,7 @@ def is_row(row):
     """What the reader takes, and therefore what the writer may write."""
     if row.status == 0:
         return (1 <= row.body <= 9 and known_frame(row.frame)
-                and date_status(row.minutes) == 0
+                and date_status(row.minutes, ROW_TABLE) == 0
                 and all(fits_eight_bytes(part) for part in row[4:]))
     return 1 <= row.status <= 4 and not any(row[1:])
 
@@ -537,7 +623,7 @@ def read_row(slice_):
 
 def row_of_date(date, body, frame):
     """The bytes of one row: the place, or the refused row."""
-    status, *place = place_answer(date, body, frame)
+    status, *place = place_answer(date, body, frame, ROW_TABLE)
     if status:
         return refused_row(status)
     return row_bytes(Row(0, body, frame, minute_of(date), *place))
@@ -576,6 +662,7 @@ def write_sheet(start, step, count, body, frame, buffer):
 # --------------------------------------------------------------------------
 
 HEADER = "minute body frame status x y z"
+LISTING_TABLE = 1               # a line names no table; the listing stays with this one
 REQUEST = re.compile(rb"(-?[0-9]{1,10}) (-?[0-9]{1,10}) (-?[0-9]{1,10})")
 
 
@@ -591,7 +678,7 @@ def listing_line(line):
     if request is None:
         return "0 0 0 9 0 0 0"
     minute, body, frame = request
-    status, *place = place_answer(minute, body, frame)
+    status, *place = place_answer(minute, body, frame, LISTING_TABLE)
     shown = (0, 0, 0, status) if status else (minute, body, frame, 0)
     return " ".join(str(number) for number in (*shown, *place))
 

@@ -70,6 +70,12 @@ DATED_CALLS = {
     "turn": (STATUS_COUNTS, [I64] * 5),
     "row": (I64, [I64] * 2 + [BYTES, SIZE]),
     "sheet": (STATUS_GOOD, [I64] * 4 + [BYTES, SIZE]),
+    # 02, Item 1: the table comes right after the date
+    "elements_by_table": (STATUS_ELEMENTS, [I64] * 2),
+    "mean_anomaly_by_table": (STATUS_ANGLE, [I64] * 2),
+    "counts_by_table": (STATUS_COUNTS, [I64] * 3),
+    "place_by_table": (STATUS_AU, [I64] * 3),
+    "turn_by_table": (STATUS_COUNTS, [I64] * 6),
 }
 
 

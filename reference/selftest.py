@@ -3,7 +3,11 @@
 Run by `python3 exact.py selftest`; prints what fails, and a last line.
 """
 
+import math
+import os
 import random
+import re
+from fractions import Fraction
 
 import exact as x
 
@@ -91,6 +95,106 @@ def row_examples():
     yield "no line", x.listing(b""), b"minute body frame status x y z\n"
 
 
+def table_examples():
+    """02, Item 1: table 2's interval; refusal 11 after 1 and before 2."""
+    yield "table 2's first JD", x.minute_of_julian(625673.5), -2629254960
+    yield "table 2's last JD", x.minute_of_julian(2816787.5), 525949200
+    for minute, status in ((-2629254960, 0), (-2629254961, 2),
+                           (525949200, 0), (525949201, 2)):
+        yield f"table 2, minute {minute}", x.date_status(minute, 2), status
+        yield f"table 1, minute {minute}", x.date_status(minute, 1), 2
+        yield f"no table, minute {minute}", x.date_status(minute), 2
+    for table in (0, 3, -1, 2**63 - 1, -2**63):
+        yield f"table {table}", x.elements_answer(0, 4, table), (11,) + (0,) * 6
+        yield f"M by table {table}", x.mean_anomaly_answer(0, 4, table), (11, 0)
+        yield f"place by table {table}", x.place_answer(0, 4, 1, table), (11, 0, 0, 0)
+        yield f"au by table {table}", x.place_in_au(0, 4, 1, table), (11, 0, 0, 0)
+        yield f"turn by table {table}", x.turn_answer(0, 1, 2, (1, 2, 3), table)[0], 11
+        yield f"1 before table {table}", x.place_answer(math.nan, 0, 0, table)[0], 1
+        yield f"table {table} before 2", x.place_answer(2**63 - 1, 0, 0, table)[0], 11
+    yield "2 before 3", x.place_answer(525949201, 10, 6, 2)[0], 2
+    yield "3 before 4", x.place_answer(525949200, 10, 6, 2)[0], 3
+    yield "4 before 5", x.turn_answer(525949200, 1, 6, (2**63, 0, 0), 2)[0], 4
+
+
+def some_moments(chance, table):
+    """Both ends of a table's interval, 0, and some minutes between."""
+    first, last = x.INTERVALS[table]
+    return [first, 0, last, *(chance.randint(first, last) for _ in range(20))]
+
+
+def plain_mean_checks(chance):
+    """Table 1's M, and that of table 2's bodies 1 to 4: document 01's step 2."""
+    for table, bodies in ((1, range(1, 10)), (2, range(1, 5))):
+        for body in bodies:
+            for minute in some_moments(chance, table):
+                _, _, _, _, longitude, perihelion, _ = x.elements_answer(
+                    minute, body, table)
+                plain = x.one_turn((longitude - perihelion) // 100)
+                yield (f"M of {body} at {minute} by table {table}",
+                       x.mean_anomaly_answer(minute, body, table), (0, plain))
+
+
+def true_terms(t, body):
+    """b·T² + c·cos(fT) + s·sin(fT) of 002 (8-30) in degrees, with true sines."""
+    b, c, s, f = (count / 10**8 for count in x.TABLES[2].terms[body - 1])
+    angle = math.radians(f * t)
+    return b * t * t + c * math.cos(angle) + s * math.sin(angle)
+
+
+def true_mean(t, body):
+    """002's M by table 2 in degrees, its straight part in fractions of a turn."""
+    start, rates = x.TABLES[2].orbits[body - 1]
+    straight = start[3] - start[4] + (rates[3] - rates[4]) * t
+    return float(straight / 10**8 % 360) + true_terms(t, body)
+
+
+def extra_term_checks(chance):
+    """Table 2's extra terms and M beside (8-30) with true sines.
+
+    A sine of the table is off by less than 4·10^-7, fT's own rounding included,
+    the inner floor of b·T² by a count for each century, and each other floor by
+    one count.
+    """
+    for body in range(5, 10):
+        _, c, s, _ = x.TABLES[2].terms[body - 1]
+        for minute in some_moments(chance, 2):
+            t = Fraction(minute, x.CENTURY)
+            room = 4e-7 * (abs(c) + abs(s)) + abs(t) + 3
+            off = x.extra_terms(minute, body, 2) - true_terms(t, body) * 10**8
+            yield f"terms of {body} at {minute}, off by {off}", abs(off) <= room, True
+            apart = x.mean_anomaly_answer(minute, body, 2)[1] / 10**6 - true_mean(t, body)
+            apart = (apart + 180) % 360 - 180
+            yield f"M of {body} at {minute}, off by {apart}", abs(apart) < 3e-6, True
+
+
+def edition_checks():
+    """In 1900 a body's places by the two tables lie within a 200th of its distance."""
+    minute = x.minute_of_julian(2415020.5)
+    for body, name in enumerate(x.NAMES, 1):
+        first, second = (x.place_in_hae(minute, body, table) for table in (1, 2))
+        share = math.dist(first, second) / math.hypot(*first)
+        yield f"{name} by both tables, {share} of its distance", share < 1 / 200, True
+
+
+def numbers_in_double(name):
+    """The decimals of one of double.c's tables, in order."""
+    path = os.path.join(os.path.dirname(os.path.abspath(__file__)), "double.c")
+    with open(path, encoding="utf-8") as source:
+        table = re.search(name + r"(?:\[\d\])+ = \{(.*?)\};", source.read(), re.DOTALL)
+    return [x.hundred_millionths(part) for part in re.findall(r"-?\d+\.\d+", table[1])]
+
+
+def double_checks():
+    """double.c's tables are the same numbers."""
+    for number, name in ((1, "table_1"), (2, "table_2a")):
+        counts = [part for orbit in x.TABLES[number].orbits
+                  for counts in orbit for part in counts]
+        yield f"{name} of double.c", numbers_in_double(name), counts
+    terms = [part for row in x.TABLES[2].terms[4:] for part in row]
+    yield "table_2b of double.c", numbers_in_double("table_2b"), terms
+
+
 def rising_checks():
     """F rises: no step of the sine, times the largest e*, reaches 10^9."""
     steps = [-(-(b - a) // x.TABLE_STEP) for a, b in zip(x.TABLE, x.TABLE[1:])]
@@ -131,7 +235,9 @@ def main():
     chance = random.Random(1)
     checks = [*date_examples(), *element_examples(), *sine_examples(),
               *solver_examples(), *frame_examples(), *row_examples(),
-              *rising_checks(), *sine_checks(chance), *solver_checks(chance)]
+              *rising_checks(), *sine_checks(chance), *solver_checks(chance),
+              *table_examples(), *plain_mean_checks(chance),
+              *extra_term_checks(chance), *edition_checks(), *double_checks()]
     wrong = [(what, got, wanted) for what, got, wanted in checks if got != wanted]
     for what, got, wanted in wrong:
         print(f"selftest: {what}: got {got}, wanted {wanted}")

@@ -30,15 +30,15 @@ def sign_changed(row, column):
     return slip
 
 
-def centre_at_e(orbit):
+def centre_at_e(orbit, mean):
     """Step 4 with e where 10e belongs."""
-    anomaly = x.best_eccentric_anomaly(orbit.e, x.mean_anomaly(orbit))
+    anomaly = x.best_eccentric_anomaly(orbit.e, mean)
     along = x.floor(orbit.a * (x.cosine(anomaly) - orbit.e), 10**10)
-    return along, RIGHT["place_in_orbit"](orbit)[1]
+    return along, RIGHT["place_in_orbit"](orbit, mean)[1]
 
 
-def turned_mean(orbit):
-    return x.one_turn(x.floor(orbit.perihelion - orbit.mean_longitude, 100))
+def turned_mean(orbit, extra):
+    return x.one_turn(x.floor(orbit.perihelion - orbit.mean_longitude + extra, 100))
 
 
 SLIPS = {

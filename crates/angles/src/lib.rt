@@ -60,6 +60,15 @@ impl Element {
         Element(self.0 - other.0)
     }
 
+    // The sum of two elements, as of a mean anomaly and a further term of it.
+    pub fn sum(self, other: Element) -> Element
+        requires { ⌜ Within 4000000000000000000 (hundredMillionths self) ⌝ }
+        requires { ⌜ Within 4000000000000000000 (hundredMillionths other) ⌝ }
+        ensures { λ r. ⌜ hundredMillionths r ≡ hundredMillionths self +ℤ hundredMillionths other ⌝ }
+    {
+        Element(self.0 + other.0)
+    }
+
     // An element that counts degrees, as an angle: divided by 100 with floor.
     pub fn to_angle(self) -> Angle
         ensures { λ r. ⌜ millionths r ≡ inMillionths (hundredMillionths self) ⌝ }

@@ -1,9 +1,11 @@
 // The C interface, a static library. Each exported function is one line over the crates below; `include/lindenbrood.h`
-// declares them for C. One struct carries a date in either form, so that no call exists twice.
+// declares them for C. One struct carries a date in either form, so that no call exists twice. A call that names no table hands
+// on `DEFAULT_TABLE`; to go by way of the call by a table would cost some 9 ns.
 ghost use mathlib.Core.Path.{_≡_};
 ghost use mathlib.Core.List.{[], _∷_};
 ghost use Rattle.angles.specs.Sine.{sineOf, cosineOf};
 ghost use Rattle.kepler.specs.Answer.{solvedOf};
+ghost use Rattle.tables.specs.Table.{defaultTable};
 ghost use Rattle.orbits.specs.Answer.{elementsAnswer, meanAnswer};
 ghost use Rattle.frames.specs.Rtn.{toRtn, fromRtn};
 ghost use Rattle.places.specs.Answer.{placeAnswer, turnAnswer, auAnswer};
@@ -22,6 +24,7 @@ use answers::CRow;
 use answers::CSheet;
 use answers::CVector;
 use rows::Row;
+use tables::DEFAULT_TABLE;
 
 // The sine of any angle, 10^9 standing for one.
 #[no_mangle]
@@ -55,41 +58,105 @@ pub extern "C" fn lindenbrood_eccentric_anomaly(e: i64, mean: i64) -> CAngle
     ))
 }
 
-// The six elements of a body on a date.
+// The six elements of a body on a date by a table.
+#[no_mangle]
+pub extern "C" fn lindenbrood_elements_by_table(date: CDate, table: i64, body: i64) -> CElements
+    ensures { λ r. ⌜ r ≡ cElements (elementsAnswer (dateOf date) table body) ⌝ }
+{
+    answers::elements_of(orbits::elements_on_date(answers::date_of(date), table, body))
+}
+
+// The same by the table of a call that names none.
 #[no_mangle]
 pub extern "C" fn lindenbrood_elements(date: CDate, body: i64) -> CElements
-    ensures { λ r. ⌜ r ≡ cElements (elementsAnswer (dateOf date) body) ⌝ }
+    ensures { λ r. ⌜ r ≡ cElements (elementsAnswer (dateOf date) defaultTable body) ⌝ }
 {
-    answers::elements_of(orbits::elements_on_date(answers::date_of(date), body))
+    answers::elements_of(orbits::elements_on_date(answers::date_of(date), DEFAULT_TABLE, body))
 }
 
-// The mean anomaly of a body on a date.
+// The mean anomaly of a body on a date by a table.
+#[no_mangle]
+pub extern "C" fn lindenbrood_mean_anomaly_by_table(date: CDate, table: i64, body: i64) -> CAngle
+    ensures { λ r. ⌜ r ≡ cAngle (meanAnswer (dateOf date) table body) ⌝ }
+{
+    answers::angle_of(orbits::mean_anomaly(answers::date_of(date), table, body))
+}
+
+// The same by the table of a call that names none.
 #[no_mangle]
 pub extern "C" fn lindenbrood_mean_anomaly(date: CDate, body: i64) -> CAngle
-    ensures { λ r. ⌜ r ≡ cAngle (meanAnswer (dateOf date) body) ⌝ }
+    ensures { λ r. ⌜ r ≡ cAngle (meanAnswer (dateOf date) defaultTable body) ⌝ }
 {
-    answers::angle_of(orbits::mean_anomaly(answers::date_of(date), body))
+    answers::angle_of(orbits::mean_anomaly(answers::date_of(date), DEFAULT_TABLE, body))
 }
 
-// The place of a body in a frame on a date, in counts of 10^-7 au.
+// The place of a body in a frame on a date by a table, in counts of 10^-7 au.
+#[no_mangle]
+pub extern "C" fn lindenbrood_counts_by_table(
+    date: CDate,
+    table: i64,
+    body: i64,
+    frame: i64,
+) -> CVector
+    ensures { λ r. ⌜ r ≡ cCounts (placeAnswer (dateOf date) table body frame) ⌝ }
+{
+    let given = answers::date_of(date);
+    let sines = angles::sines();
+    answers::counts_of(places::place_after(&sines, given, table, 0, body, frame))
+}
+
+// The same by the table of a call that names none.
 #[no_mangle]
 pub extern "C" fn lindenbrood_counts(date: CDate, body: i64, frame: i64) -> CVector
-    ensures { λ r. ⌜ r ≡ cCounts (placeAnswer (dateOf date) body frame) ⌝ }
+    ensures { λ r. ⌜ r ≡ cCounts (placeAnswer (dateOf date) defaultTable body frame) ⌝ }
 {
+    let given = answers::date_of(date);
     let sines = angles::sines();
-    answers::counts_of(places::place_after(&sines, answers::date_of(date), 0, body, frame))
+    answers::counts_of(places::place_after(&sines, given, DEFAULT_TABLE, 0, body, frame))
 }
 
-// The place of a body in a frame on a date, in au.
+// The place of a body in a frame on a date by a table, in au.
+#[no_mangle]
+pub extern "C" fn lindenbrood_place_by_table(
+    date: CDate,
+    table: i64,
+    body: i64,
+    frame: i64,
+) -> CPlace
+    ensures { λ r. ⌜ r ≡ cPlace (auAnswer (dateOf date) table body frame) ⌝ }
+{
+    let sines = angles::sines();
+    answers::au_of(places::place_in_au(&sines, answers::date_of(date), table, body, frame))
+}
+
+// The same by the table of a call that names none.
 #[no_mangle]
 pub extern "C" fn lindenbrood_place(date: CDate, body: i64, frame: i64) -> CPlace
-    ensures { λ r. ⌜ r ≡ cPlace (auAnswer (dateOf date) body frame) ⌝ }
+    ensures { λ r. ⌜ r ≡ cPlace (auAnswer (dateOf date) defaultTable body frame) ⌝ }
 {
     let sines = angles::sines();
-    answers::au_of(places::place_in_au(&sines, answers::date_of(date), body, frame))
+    answers::au_of(places::place_in_au(&sines, answers::date_of(date), DEFAULT_TABLE, body, frame))
 }
 
-// A vector of one frame in another on a date.
+// A vector of one frame in another on a date by a table, whose Earth HEE and HEEQ go by.
+#[no_mangle]
+pub extern "C" fn lindenbrood_turn_by_table(
+    date: CDate,
+    table: i64,
+    from: i64,
+    to: i64,
+    x: i64,
+    y: i64,
+    z: i64,
+) -> CVector
+    ensures { λ r. ⌜ r ≡ cVector (turnAnswer (dateOf date) table from to (x ∷ y ∷ z ∷ [])) ⌝ }
+{
+    let given = answers::date_of(date);
+    let sines = angles::sines();
+    answers::vector_of(places::turn_on_date(&sines, given, table, from, to, [x, y, z]))
+}
+
+// The same by the table of a call that names none.
 #[no_mangle]
 pub extern "C" fn lindenbrood_turn(
     date: CDate,
@@ -99,10 +166,11 @@ pub extern "C" fn lindenbrood_turn(
     y: i64,
     z: i64,
 ) -> CVector
-    ensures { λ r. ⌜ r ≡ cVector (turnAnswer (dateOf date) from to (x ∷ y ∷ z ∷ [])) ⌝ }
+    ensures { λ r. ⌜ r ≡ cVector (turnAnswer (dateOf date) defaultTable from to (x ∷ y ∷ z ∷ [])) ⌝ }
 {
+    let given = answers::date_of(date);
     let sines = angles::sines();
-    answers::vector_of(places::turn_on_date(&sines, answers::date_of(date), from, to, [x, y, z]))
+    answers::vector_of(places::turn_on_date(&sines, given, DEFAULT_TABLE, from, to, [x, y, z]))
 }
 
 // A vector of HAE in RTN at the place r of a spacecraft.

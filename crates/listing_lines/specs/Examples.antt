@@ -4,7 +4,7 @@ use mathlib.Core.Path.{_≡_, refl}
 use Prim.Native.Nat.{ℕ}
 use lib.IntN.{pos, negsuc}
 use Rattle.dates.specs.Moment.{tested, momentAt}
-use Rattle.tables.specs.Table.{momentAfter}
+use Rattle.tables.specs.Table.{intervalOf, momentAfter}
 use Rattle.listing_lines.specs.declared.Request.the-variants.{Asked, NoRequest}
 use Rattle.listing_lines.specs.Request.{digitsAfter, digitsOf, wholeOf, spaceAt, requestOf}
 use Rattle.listing_lines.specs.Decimal.{decimalFrom, decimalOf}
@@ -38,7 +38,7 @@ fivePrinted =
     ∷ []
 
 pub it-prints-exactly : listingOf fourLines ≡ fivePrinted
-unfolding listingOf linesFrom textOf decimalOf decimalFrom requestOf wholeOf digitsOf digitsAfter spaceAt momentAfter momentAt tested
+unfolding listingOf linesFrom textOf decimalOf decimalFrom requestOf wholeOf digitsOf digitsAfter spaceAt momentAfter intervalOf momentAt tested
 it-prints-exactly = refl
 
 -- `-0 0000000003 01`

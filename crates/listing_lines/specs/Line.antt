@@ -6,6 +6,7 @@ use Rattle.refusals.specs.declared.Refusal.{Refusal}
 use Rattle.refusals.specs.declared.Refusal.the-variants.{NoRow}
 use Rattle.refusals.specs.Number.{numberOf}
 use Rattle.dates.specs.declared.Date.the-variants.{Minutes}
+use Rattle.tables.specs.Table.{defaultTable}
 use Rattle.places.specs.declared.PlaceAnswer.{PlaceAnswer}
 use Rattle.places.specs.declared.PlaceAnswer.the-variants.{Found, Refused}
 use Rattle.places.specs.Answer.{placeAnswer}
@@ -28,9 +29,10 @@ abbrev pub numbersOf : ℤ → ℤ → PlaceAnswer → List ℤ
 numbersOf body frame (Found minute p) = minute ∷ body ∷ frame ∷ pos 0 ∷ p .x ∷ p .y ∷ p .z ∷ []
 numbersOf body frame (Refused r) = refusedNumbers r
 
--- the answer to a request, as it is printed: the place on that minute, or refusal 9 where the line is none
+-- the answer to a request, as it is printed: the place on that minute by the table of a call that names none, or refusal 9 where the
+-- line is none
 abbrev pub answerOf : Request → List ℤ
-answerOf (Asked minute body frame) = numbersOf body frame (placeAnswer (Minutes minute) body frame)
+answerOf (Asked minute body frame) = numbersOf body frame (placeAnswer (Minutes minute) defaultTable body frame)
 answerOf NoRequest = refusedNumbers NoRow
 
 -- the printed line, with its line end, of a request, and of a line of input

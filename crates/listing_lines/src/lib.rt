@@ -13,6 +13,7 @@ ghost use Rattle.listing_lines.specs.Stream.{lastOf, oneMore, IsFed, IsP
 use dates::Date;
 use places::PlaceAnswer;
 use refusals::Refusal;
+use tables::DEFAULT_TABLE;
 
 // The number that one to ten digits stand for.
 pub enum Digits {
@@ -220,7 +221,11 @@ fn answer_to(sines: &[u32; 901], request: Request) -> [i64; 7]
 {
     match request {
         Request::Asked(m, b, f) => {
-            numbers_of(b, f, places::place_after(sines, Date::Minutes(m), 0, b, f))
+            numbers_of(
+                b,
+                f,
+                places::place_after(sines, Date::Minutes(m), DEFAULT_TABLE, 0, b, f),
+            )
         }
         Request::NoRequest => [0, 0, 0, refusals::number(Refusal::NoRow), 0, 0, 0],
     }

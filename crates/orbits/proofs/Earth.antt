@@ -1,14 +1,17 @@
--- The Earth is never at the Sun: x² + y² of its HAE place is at least 9,300,000² and |z| at most 250,000, by Table 1 on every minute of its
--- interval, and by any elements like the Earth's whose inclination is at most 0.67 degrees, as Table 2's is; node and longitudes are free.
+-- The Earth is never at the Sun: x² + y² of its HAE place is at least 9,300,000² and |z| at most 250,000, by either table on every minute of its
+-- interval, and by any elements like the Earth's whose inclination is at most 0.67 degrees; node and longitudes are free.
 -- The inclination is small, so step 5 is nearly a turn in the plane by ω + Ω, which keeps lengths; the place in the plane is far (`Plane`).
 use lib.Dec.{T}
+use mathlib.Core.Bool.{Bool, true, false}
 use mathlib.Core.Path.{_≡_, sym, ap, _∙_}
-use mathlib.Core.List.{List}
+use mathlib.Core.List.{List, []}
 use Prim.Native.Nat.{ℕ, _+_, _*_, _≤_}
 use native.Mathlib.Nat.{mul-le-mul}
 use native.Mathlib.Omega.{arith}
 use lib.IntN.{ℤ, pos, negsuc, negℤ, natAbs, _+ℤ_, _-ℤ_, _*ℤ_, +ℤ-assoc}
+use lib.ListN.{getD}
 use Rattle.integers.specs.Range.{Within, FromTo, isFromTo}
+use Rattle.integers.specs.Sign.{same}
 use Rattle.integers.specs.Triple.{at}
 use Rattle.integers.specs.Floor.{unitProduct, endTurn}
 use Rattle.integers.proofs.Difference.{zarith, up-neg, dn-neg, d-add, d-minus, d-abs, abs-d}
@@ -23,11 +26,12 @@ use Rattle.angles.proofs.Laws.{sine-small, cosine-small}
 use Rattle.angles.proofs.Squares.{NearCircle, squares}
 use Rattle.angles.proofs.Near.{sine-little, cosine-near}
 use Rattle.kepler.specs.Eccentric.{eccentric}
+use Rattle.dates.specs.declared.Interval.{Interval}
 use Rattle.dates.specs.Minute.{driftOf}
 use Rattle.dates.specs.Moment.{Covers}
-use Rattle.tables.specs.Table.{table1, tableRow, interval1}
+use Rattle.tables.specs.Table.{table1, table2, rowsIf, tableRow, tableTerms, interval1, interval2, intervalIf, intervalOf}
 use Rattle.orbits.specs.declared.Elements.{Elements}
-use Rattle.orbits.specs.Elements.{elementIn, elementsAt, meanAnomalyOf, argumentOf, inclinationOf, nodeOf}
+use Rattle.orbits.specs.Elements.{elementIn, elementsAt, meanAt, argumentOf, inclinationOf, nodeOf}
 use Rattle.orbits.specs.Place.{coefficientsOf, eclipticOf, planeX, planeY, placeOf, placeAt}
 use Rattle.orbits.proofs.Rows.{element-between}
 use Rattle.orbits.proofs.Plane.{plane-long, plane-x-most, plane-y-most}
@@ -184,22 +188,31 @@ elements-clear el M f =
     clear-by (argumentOf el) (nodeOf el) (inclinationOf el) (planeX a e E) (planeY a e E) (w-floor 99 670000 i tt)
     (plane-x-most a e E (f .axis) (f .short)) (plane-y-most a e E (f .axis) (f .short)) (plane-long a e E (f .axis) (f .short))
 
--- ---- the Earth by Table 1: its elements are in range at both ends of the interval
-module _ (m : ℤ) (h : Covers interval1 m) where
-  stays : (k : ℕ) (lo hi : ℤ) → T (isFromTo lo hi (elementIn (tableRow (pos 3)) k (interval1 .first))) → T (isFromTo lo hi (elementIn (tableRow (pos 3)) k (interval1 .last))) → FromTo lo hi (elementIn (tableRow (pos 3)) k m)
-  stays k lo hi a b =
-      element-between (tableRow (pos 3)) k interval1 m lo hi h
-      (of-test lo hi (elementIn (tableRow (pos 3)) k (interval1 .first)) a)
-      (of-test lo hi (elementIn (tableRow (pos 3)) k (interval1 .last)) b)
+-- ---- the Earth by a table: its elements are in range at both ends of the interval
+module _ (span : Interval) (row : List ℤ) (m : ℤ) (h : Covers span m) where
+  stays : (k : ℕ) (lo hi : ℤ) → T (isFromTo lo hi (elementIn row k (span .first))) → T (isFromTo lo hi (elementIn row k (span .last))) → FromTo lo hi (elementIn row k m)
+  stays k lo hi a b = element-between row k span m lo hi h (of-test lo hi (elementIn row k (span .first)) a) (of-test lo hi (elementIn row k (span .last)) b)
 
-  earth-like : EarthLike (elementsAt (tableRow (pos 3)) m)
-  unfolding table1 driftOf
-  earth-like =
-      record {
-        axis = stays 0 (pos 99990000) (pos 100010000) tt tt;
-        short = stays 1 (pos 0) (pos 1900000) tt tt;
-        inclination = stays 2 (negsuc 66999999) (pos 67000000) tt tt;
-      }
+earth-like : (table m : ℤ) → Covers (intervalOf table) m → EarthLike (elementsAt (tableRow table (pos 3)) m)
+unfolding intervalOf tableRow table1 table2 driftOf
+earth-like table m h = go (same table (pos 1)) h
+  where
+    go : (first : Bool) → Covers (intervalIf first) m → EarthLike (elementsAt (getD (rowsIf first) 2 []) m)
+    go true h =
+        let row = getD table1 2 [] in
+        record {
+          axis = stays interval1 row m h 0 (pos 99990000) (pos 100010000) tt tt;
+          short = stays interval1 row m h 1 (pos 0) (pos 1900000) tt tt;
+          inclination = stays interval1 row m h 2 (negsuc 66999999) (pos 67000000) tt tt;
+        }
+    go false h =
+        let row = getD table2 2 [] in
+        record {
+          axis = stays interval2 row m h 0 (pos 99990000) (pos 100010000) tt tt;
+          short = stays interval2 row m h 1 (pos 0) (pos 1900000) tt tt;
+          inclination = stays interval2 row m h 2 (negsuc 66999999) (pos 67000000) tt tt;
+        }
 
-  pub earth-clear : Clear (placeAt (tableRow (pos 3)) m)
-  earth-clear = let el = elementsAt (tableRow (pos 3)) m in elements-clear el (meanAnomalyOf el) earth-like
+pub earth-clear : (table m : ℤ) → Covers (intervalOf table) m → Clear (placeAt (tableRow table (pos 3)) (tableTerms table (pos 3)) m)
+earth-clear table m h =
+    elements-clear (elementsAt (tableRow table (pos 3)) m) (meanAt (tableRow table (pos 3)) (tableTerms table (pos 3)) m) (earth-like table m h)

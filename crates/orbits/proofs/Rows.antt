@@ -1,28 +1,31 @@
 -- A row of twelve whose numbers hold their bounds at the two ends of a span of minutes gives elements in range on every minute between.
--- A drift lies between those at the two ends (`drift-between`), so that two tests do for all minutes; computed over Table 1's rows.
+-- A drift lies between those at the two ends (`drift-between`), so that two tests do for all minutes; computed over the rows of both tables.
 use lib.Signed.{_≤ℤ_}
-use mathlib.Core.Bool.{Bool, _&&_}
-use mathlib.Core.List.{List}
-use Prim.Native.Nat.{ℕ, _+_, _-_, _*_, _≤_, _<_}
+use mathlib.Core.Bool.{Bool, true, false, _&&_}
+use mathlib.Core.List.{List, [], _∷_}
+use Prim.Native.Nat.{ℕ, zero, suc, _+_, _-_, _*_, _≤_}
 use native.Mathlib.Nat as NatL
 use native.Mathlib.Omega.{arith}
 use lib.Dec.{T, leb, leb→le}
-use lib.IntN.{ℤ, pos, negsuc, natAbs}
+use lib.IntN.{ℤ, pos, natAbs}
+use lib.ListN.{getD}
 use mir.Facts.{and-yes}
 use Rattle.integers.specs.Range.{Within, FromTo, isFromTo}
+use Rattle.integers.specs.Sign.{same}
 use Rattle.integers.specs.Triple.{at, PartsWithin}
 use Rattle.integers.proofs.Difference.{zarith}
 use Rattle.integers.proofs.Number.{w-add, w-more}
-use Rattle.integers.proofs.Table.{allWithin, all-within, at-row}
+use Rattle.integers.proofs.Table.{allWithin, all-within, everyRow, at-row}
 use Rattle.integers.proofs.Ranges.{of-test, range-within, range-most}
 use Rattle.dates.specs.declared.Interval.{Interval}
 use Rattle.dates.specs.Minute.{driftOf}
 use Rattle.dates.specs.Moment.{Covers}
 use Rattle.dates.proofs.Laws.{drift-within, drift-between}
-use Rattle.tables.specs.Table.{table1, Body, tableRow, interval1}
-use Rattle.orbits.specs.Elements.{elementIn, elementsAt, meanAnomalyOf}
+use Rattle.tables.specs.Table.{table1, table2, terms2, Body, rowsIf, tableRow, noTerms, termsIf, tableTerms, interval1, interval2, intervalIf, intervalOf, OnTable}
+use Rattle.tables.proofs.Laws.{first-near, last-near, body-index}
+use Rattle.orbits.specs.Elements.{elementIn, elementsAt, meanAt}
 use Rattle.orbits.specs.Place.{placeAt}
-use Rattle.orbits.specs.Range.{RowFits, AxisFits, ElementsFit}
+use Rattle.orbits.specs.Range.{RowFits, TermsFit, AxisFits, ElementsFit}
 use Rattle.orbits.proofs.Bounds.{place-within}
 
 -- ---- an element on every minute of a span
@@ -105,33 +108,44 @@ module _ (span : Interval) (row : List ℤ) (s : Spans span row) (first-near : W
       lower : (z : ℤ) {n : ℕ} → z ≤ℤ pos n → n ≤ 90000000 → z ≤ℤ pos 90000000
       lower z p q = omega (zarith, p)
 
-  angle : (k : ℕ) → Within 4000000000000000000 (elementIn row k m)
+  angle : (k : ℕ) → Within 1000000000000000000 (elementIn row k m)
   angle k = w-more (w-add (row-fits .each k) (drift-within 5100000000000000 (row-fits .each (k + 6)) minute (omega arith))) tt
 
   pub elements-fit : ElementsFit (elementsAt row m)
   elements-fit = record { axis = axis; longitude = angle 3; perihelion = angle 4; node = angle 5 }
 
--- ---- Table 1
-index : (body : ℤ) → Body body → natAbs body - 1 < 9
-index (pos n) h = omega (zarith, h .low, h .high)
-index (negsuc n) h = absurd (h .low .le)
+-- ---- the tables
+table-spans : (table body : ℤ) → Body body → Spans (intervalOf table) (tableRow table body)
+unfolding intervalOf tableRow table1 table2 driftOf
+table-spans table body h = go (same table (pos 1))
+  where
+    go : (first : Bool) → Spans (intervalIf first) (getD (rowsIf first) (natAbs body - 1) [])
+    go true = spans-by interval1 (getD table1 (natAbs body - 1) []) (at-row (spans interval1) table1 tt (natAbs body - 1) (body-index body h))
+    go false = spans-by interval2 (getD table2 (natAbs body - 1) []) (at-row (spans interval2) table2 tt (natAbs body - 1) (body-index body h))
 
-table-spans : (body : ℤ) → Body body → Spans interval1 (tableRow body)
-unfolding table1 driftOf
-table-spans body h = spans-by interval1 (tableRow body) (at-row (spans interval1) table1 tt (natAbs body - 1) (index body h))
+-- the numbers of the further terms of M, whatever the table and the body
+all-terms : (rows : List (List ℤ)) → T (everyRow (allWithin 5000000000) rows) → (k : ℕ) → T (allWithin 5000000000 (getD rows k noTerms))
+all-terms [] t k = tt
+all-terms (r ∷ rows) t zero = and-yes (allWithin 5000000000 r) (everyRow (allWithin 5000000000) rows) t .0
+all-terms (r ∷ rows) t (suc k) = all-terms rows (and-yes (allWithin 5000000000 r) (everyRow (allWithin 5000000000) rows) t .1) k
 
-first-near : Within 2630000000 (interval1 .first)
-first-near = record { within = omega arith }
+table-terms : (table body : ℤ) (k : ℕ) → Within 5000000000 (at (tableTerms table body) k)
+unfolding tableTerms terms2
+table-terms table body k = go (same table (pos 1))
+  where
+    go : (first : Bool) → Within 5000000000 (at (getD (termsIf first) (natAbs body - 1) noTerms) k)
+    go true = all-within 5000000000 (getD (termsIf true) (natAbs body - 1) noTerms) (all-terms (termsIf true) tt (natAbs body - 1)) k
+    go false = all-within 5000000000 (getD (termsIf false) (natAbs body - 1) noTerms) (all-terms (termsIf false) tt (natAbs body - 1)) k
 
-last-near : Within 2630000000 (interval1 .last)
-last-near = record { within = omega arith }
+module _ (table body m : ℤ) (b : Body body) (h : OnTable table m) where
+  pub table-row-fits : RowFits (tableRow table body) m
+  table-row-fits = row-fits (intervalOf table) (tableRow table body) (table-spans table body b) (first-near table) (last-near table) m (h .covered)
 
-module _ (body m : ℤ) (b : Body body) (h : Covers interval1 m) where
-  pub table-row-fits : RowFits (tableRow body) m
-  table-row-fits = row-fits interval1 (tableRow body) (table-spans body b) first-near last-near m h
+  pub table-elements-fit : ElementsFit (elementsAt (tableRow table body) m)
+  table-elements-fit = elements-fit (intervalOf table) (tableRow table body) (table-spans table body b) (first-near table) (last-near table) m (h .covered)
 
-  pub table-elements-fit : ElementsFit (elementsAt (tableRow body) m)
-  table-elements-fit = elements-fit interval1 (tableRow body) (table-spans body b) first-near last-near m h
+  pub table-terms-fit : TermsFit (tableTerms table body) m
+  table-terms-fit = record { each = table-terms table body; minute = table-row-fits .minute }
 
-  pub table-place-within : PartsWithin 1000000000 (placeAt (tableRow body) m)
-  table-place-within = let el = elementsAt (tableRow body) m in place-within el (meanAnomalyOf el) table-elements-fit
+  pub table-place-within : PartsWithin 1000000000 (placeAt (tableRow table body) (tableTerms table body) m)
+  table-place-within = place-within (elementsAt (tableRow table body) m) (meanAt (tableRow table body) (tableTerms table body) m) table-elements-fit

@@ -1,4 +1,5 @@
--- The answers to a date and a body: refusals 1, 2 and 3 in that order (01, "Numbered refusals"), else the elements or the mean anomaly.
+-- The answers to a date, a table and a body: refusals 1, 11, 2 and 3 in that order (01, "Numbered refusals"; 02, Item 1), else the elements
+-- or the mean anomaly.
 use mathlib.Core.Bool.{Bool, true, false}
 use lib.IntN.{ℤ, pos}
 use Rattle.refusals.specs.declared.Refusal.the-variants.{NoSuchBody}
@@ -9,33 +10,36 @@ use Rattle.kepler.specs.declared.AnomalyAnswer.the-variants.{Anomaly, Refused a
 use Rattle.dates.specs.declared.Date.{Date}
 use Rattle.dates.specs.declared.Moment.{Moment}
 use Rattle.dates.specs.declared.Moment.the-variants.{Accepted, Refused as RefusedDate}
-use Rattle.tables.specs.Table.{isBody, tableRow, momentAfter}
+use Rattle.tables.specs.Table.{isBody, tableRow, tableTerms, momentAfter}
 use Rattle.orbits.specs.declared.Elements.{Elements}
 use Rattle.orbits.specs.declared.ElementsAnswer.{ElementsAnswer}
 use Rattle.orbits.specs.declared.ElementsAnswer.the-variants.{Found, Refused}
-use Rattle.orbits.specs.Elements.{elementsAt, meanAnomalyOf}
+use Rattle.orbits.specs.Elements.{elementsAt, meanAt}
 
--- the elements on an accepted minute: refusal 3, "body not 1 to 9"
-abbrev pub elementsIf : (isBody : Bool) → ℤ → ℤ → ElementsAnswer
-elementsIf true body m = Found (elementsAt (tableRow body) m)
-elementsIf false body m = Refused NoSuchBody
+-- the moment of a date for a body: refusal 3, "body not 1 to 9", comes after those of the date
+abbrev pub bodyIf : (isBody : Bool) → Moment → Moment
+bodyIf true moment = moment
+bodyIf false (Accepted m) = RefusedDate NoSuchBody
+bodyIf false (RefusedDate r) = RefusedDate r
 
-abbrev pub elementsOn : Moment → ℤ → ElementsAnswer
-elementsOn (Accepted m) body = elementsIf (isBody body) body m
-elementsOn (RefusedDate r) body = Refused r
+unfoldable pub bodyMoment : Date → (table body : ℤ) → Moment
+bodyMoment date table body = bodyIf (isBody body) (momentAfter date table (pos 0))
 
--- the six elements of a body on a date
-abbrev pub elementsAnswer : Date → ℤ → ElementsAnswer
-elementsAnswer date body = elementsOn (momentAfter date (pos 0)) body
+-- the six elements of a body on a date by a table
+abbrev pub elementsOn : Moment → (table body : ℤ) → ElementsAnswer
+elementsOn (Accepted m) table body = Found (elementsAt (tableRow table body) m)
+elementsOn (RefusedDate r) table body = Refused r
 
--- the mean anomaly of the elements, where there are any
-abbrev pub meanFrom : ElementsAnswer → AnomalyAnswer
-meanFrom (Found x) = Anomaly (angleOf (meanAnomalyOf x))
-meanFrom (Refused r) = NoAnomaly r
+abbrev pub elementsAnswer : Date → (table body : ℤ) → ElementsAnswer
+elementsAnswer date table body = elementsOn (bodyMoment date table body) table body
 
--- the mean anomaly of a body on a date
-abbrev pub meanAnswer : Date → ℤ → AnomalyAnswer
-meanAnswer date body = meanFrom (elementsAnswer date body)
+-- its mean anomaly
+abbrev pub meanOn : Moment → (table body : ℤ) → AnomalyAnswer
+meanOn (Accepted m) table body = Anomaly (angleOf (meanAt (tableRow table body) (tableTerms table body) m))
+meanOn (RefusedDate r) table body = NoAnomaly r
+
+abbrev pub meanAnswer : Date → (table body : ℤ) → AnomalyAnswer
+meanAnswer date table body = meanOn (bodyMoment date table body) table body
 
 -- document 01's number of an answer, 0 where there is one, and the elements, zeros where there are none
 abbrev pub elementsStatus : ElementsAnswer → ℤ

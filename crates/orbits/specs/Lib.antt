@@ -3,3 +3,4 @@ pub mod Elements
 pub mod Place
 pub mod Range
 pub mod Answer
+pub mod Examples

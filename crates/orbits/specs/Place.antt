@@ -9,7 +9,7 @@ use Rattle.kepler.specs.Eccentric.{eccentric}
 use Rattle.orbits.specs.declared.Elements.{Elements}
 use Rattle.orbits.specs.declared.InPlane.{InPlane}
 use Rattle.orbits.specs.declared.Coefficients.{Coefficients}
-use Rattle.orbits.specs.Elements.{elementsAt, meanAnomalyOf, argumentOf, inclinationOf, nodeOf}
+use Rattle.orbits.specs.Elements.{elementsAt, meanAt, argumentOf, inclinationOf, nodeOf}
 
 -- step 4: f is the greatest whole number with f² ≤ 10^18 - (10e)²
 unfoldable pub minorOf : ℤ → ℤ
@@ -57,6 +57,6 @@ placeOf el M =
     let E = eccentric e M in
     eclipticOf (coefficientsOf (argumentOf el) (nodeOf el) (inclinationOf el)) (planeX a e E) (planeY a e E)
 
--- the place on minute m of the body whose elements a row of twelve numbers gives
-abbrev pub placeAt : List ℤ → ℤ → List ℤ
-placeAt row m = let el = elementsAt row m in placeOf el (meanAnomalyOf el)
+-- the place on minute m of the body whose elements a row of twelve numbers gives, with the four numbers of the further terms of M
+abbrev pub placeAt : (row terms : List ℤ) → ℤ → List ℤ
+placeAt row terms m = placeOf (elementsAt row m) (meanAt row terms m)

@@ -1,5 +1,5 @@
 -- Terms of inner contracts: the ranges within which a row of twelve numbers gives elements whose place overflows nowhere. They are
--- wider than Table 1 needs: a up to 45 au, a·(1 + e) up to 50 au, e up to 0.9, and 50 centuries either way.
+-- wider than the tables need: a up to 45 au, a·(1 + e) up to 50 au, e up to 0.9, and 50 centuries either way.
 use mathlib.Core.List.{List}
 use Prim.Native.Nat.{ℕ, _+_, _*_, _≤_}
 use lib.IntN.{ℤ, natAbs}
@@ -15,6 +15,11 @@ pub record RowFits (row : List ℤ) (m : ℤ) : Type 0 where
   pub each : (k : ℕ) → Within 100000000000000 (at row k)
   pub minute : Within 2630000000 m
 
+-- so are the four numbers of the further terms of M
+pub record TermsFit (terms : List ℤ) (m : ℤ) : Type 0 where
+  pub each : (k : ℕ) → Within 5000000000 (at terms k)
+  pub minute : Within 2630000000 m
+
 -- a half-axis and an eccentricity for which step 4 overflows nowhere
 pub record AxisFits (a e : ℤ) : Type 0 where
   pub axis : natAbs a ≤ 4500000000
@@ -24,9 +29,9 @@ pub record AxisFits (a e : ℤ) : Type 0 where
 -- elements from which steps 2 to 5 overflow nowhere
 pub record ElementsFit (x : Elements) : Type 0 where
   pub axis : AxisFits (hundredMillionths (x .a)) (hundredMillionths (x .e))
-  pub longitude : Within 4000000000000000000 (hundredMillionths (x .longitude))
-  pub perihelion : Within 4000000000000000000 (hundredMillionths (x .perihelion))
-  pub node : Within 4000000000000000000 (hundredMillionths (x .node))
+  pub longitude : Within 1000000000000000000 (hundredMillionths (x .longitude))
+  pub perihelion : Within 1000000000000000000 (hundredMillionths (x .perihelion))
+  pub node : Within 1000000000000000000 (hundredMillionths (x .node))
 
 -- coefficients of step 5
 pub record Bounded (k : Coefficients) : Type 0 where

@@ -8,12 +8,11 @@ ghost use Rattle.integers.specs.Range.{Within};
 ghost use Rattle.integers.specs.Floor.{floorDiv, unitProduct, endTurn};
 ghost use Rattle.angles.specs.Unit.{millionths, hundredMillionths};
 ghost use Rattle.angles.specs.Sines.{sineEntries};
-ghost use Rattle.dates.specs.Moment.{Covers};
-ghost use Rattle.tables.specs.Table.{Body, isBody, tableRow, interval1};
-ghost use Rattle.orbits.specs.Elements.{elementIn, elementsAt, meanAnomalyOf, argumentOf};
+ghost use Rattle.tables.specs.Table.{Body, tableRow, tableTerms, OnTable};
+ghost use Rattle.orbits.specs.Elements.{elementIn, elementsAt, squareTerm, periodicTerms, extraOf, meanAnomalyOf, meanAt, argumentOf};
 ghost use Rattle.orbits.specs.Place.{minorOf, inPlane, coefficientsBy, coefficientsOf, eclipticOf, placeOf, placeAt};
-ghost use Rattle.orbits.specs.Range.{RowFits, AxisFits, ElementsFit, Bounded};
-ghost use Rattle.orbits.specs.Answer.{elementsIf, elementsAnswer, meanAnswer};
+ghost use Rattle.orbits.specs.Range.{RowFits, TermsFit, AxisFits, ElementsFit, Bounded};
+ghost use Rattle.orbits.specs.Answer.{bodyMoment, elementsAnswer, meanAnswer};
 use angles::Angle;
 use angles::Element;
 use dates::Date;
@@ -76,14 +75,53 @@ pub fn elements_at(row: [i64; 12], minute: i64) -> Elements
     }
 }
 
-// Step 2, the mean anomaly in one turn.
-pub fn mean_anomaly_of(elements: Elements) -> Angle
+// The term in T² of M, floor(b m / 52,596,000) done twice. It is skipped where b is 0, as for all bodies of Table 1.
+fn square_term(b: i64, minute: i64) -> i64
+    requires { ⌜ Within 5000000000 b × Within 2630000000 minute ⌝ }
+    ensures { λ r. ⌜ r ≡ squareTerm b minute ⌝ }
+{
+    if b == 0 {
+        return 0;
+    }
+    dates::drift(dates::drift(b, minute), minute)
+}
+
+// The terms in cos(fT) and sin(fT) of M. They are skipped where both numbers before them are 0.
+fn periodic_terms(sines: &[u32; 901], c: i64, s: i64, f: i64, minute: i64) -> i64
+    requires { ⌜ now sines ≡ sineEntries ⌝ }
+    requires { ⌜ Within 5000000000 c × Within 5000000000 s ⌝ }
+    requires { ⌜ Within 5000000000 f × Within 2630000000 minute ⌝ }
+    ensures { λ r. ⌜ r ≡ periodicTerms c s f minute ⌝ }
+{
+    if (c == 0) & (s == 0) {
+        return 0;
+    }
+    let phase = Element::of_hundred_millionths(dates::drift(f, minute)).to_angle();
+    integers::unit_product(c, angles::cosine(sines, phase))
+        + integers::unit_product(s, angles::sine(sines, phase))
+}
+
+// What the numbers b, c, s and f add to M, in element counts.
+fn extra_of(sines: &[u32; 901], terms: [i64; 4], minute: i64) -> Element
+    requires { ⌜ now sines ≡ sineEntries ⌝ }
+    requires { ⌜ TermsFit terms minute ⌝ }
+    ensures { λ r. ⌜ hundredMillionths r ≡ extraOf terms minute ⌝ }
+{
+    let square = square_term(terms[0], minute);
+    let periodic = periodic_terms(sines, terms[1], terms[2], terms[3], minute);
+    Element::of_hundred_millionths(square + periodic)
+}
+
+// Step 2, the mean anomaly in one turn. What a table adds to it is added before the division by 100.
+pub fn mean_anomaly_of(elements: Elements, extra: Element) -> Angle
     requires { ⌜ ElementsFit elements ⌝ }
-    ensures { λ r. ⌜ millionths r ≡ meanAnomalyOf elements ⌝ }
+    requires { ⌜ Within 1000000000000000000 (hundredMillionths extra) ⌝ }
+    ensures { λ r. ⌜ millionths r ≡ meanAnomalyOf elements (hundredMillionths extra) ⌝ }
 {
     let longitude = elements.longitude;
     let perihelion = elements.perihelion;
-    longitude.difference(perihelion).to_angle().one_turn()
+    let plain = longitude.difference(perihelion);
+    plain.sum(extra).to_angle().one_turn()
 }
 
 // Step 2, the argument of perihelion.
@@ -251,53 +289,93 @@ pub fn place_of(sines: &[u32; 901], elements: Elements, mean: Angle) -> [i64; 3]
     ecliptic(k, p.x, p.y)
 }
 
-// The elements of a body on a minute of its table's interval.
-pub fn elements_of(body: i64, minute: i64) -> Elements
+// The elements of a body on a minute of a table's interval.
+pub fn elements_of(table: i64, body: i64, minute: i64) -> Elements
     requires { ⌜ Body body ⌝ }
-    requires { ⌜ Covers interval1 minute ⌝ }
-    ensures { λ r. ⌜ r ≡ elementsAt (tableRow body) minute ⌝ }
+    requires { ⌜ OnTable table minute ⌝ }
+    ensures { λ r. ⌜ r ≡ elementsAt (tableRow table body) minute ⌝ }
 {
-    elements_at(tables::row_of(body), minute)
+    elements_at(tables::row_of(table, body), minute)
 }
 
-// The place in HAE of J2000 of a body on a minute of its table's interval.
-pub fn place_at(sines: &[u32; 901], body: i64, minute: i64) -> [i64; 3]
+// What a table adds to the mean anomaly of a body on a minute of its interval. Table 1 adds nothing.
+fn extra_at(sines: &[u32; 901], table: i64, body: i64, minute: i64) -> Element
     requires { ⌜ now sines ≡ sineEntries ⌝ }
     requires { ⌜ Body body ⌝ }
-    requires { ⌜ Covers interval1 minute ⌝ }
-    ensures { λ r. ⌜ r ≡ placeAt (tableRow body) minute ⌝ }
+    requires { ⌜ OnTable table minute ⌝ }
+    ensures { λ r. ⌜ hundredMillionths r ≡ extraOf (tableTerms table body) minute ⌝ }
 {
-    let elements = elements_of(body, minute);
-    place_of(sines, elements, mean_anomaly_of(elements))
+    if table == 1 {
+        return Element::of_hundred_millionths(0);
+    }
+    extra_of(sines, tables::terms_of(table, body), minute)
 }
 
-// The elements on an accepted minute: refusal 3 where there is no such body.
-fn elements_on(minute: i64, body: i64) -> ElementsAnswer
-    requires { ⌜ Covers interval1 minute ⌝ }
-    ensures { λ r. ⌜ r ≡ elementsIf (isBody body) body minute ⌝ }
+// The same for a caller that has no table of sines: it is built where something is to be added, and only there.
+fn extra_alone(table: i64, body: i64, minute: i64) -> Element
+    requires { ⌜ Body body ⌝ }
+    requires { ⌜ OnTable table minute ⌝ }
+    ensures { λ r. ⌜ hundredMillionths r ≡ extraOf (tableTerms table body) minute ⌝ }
 {
-    if !tables::is_body(body) {
-        return ElementsAnswer::Refused(Refusal::NoSuchBody);
+    if table == 1 {
+        return Element::of_hundred_millionths(0);
     }
-    ElementsAnswer::Found(elements_of(body, minute))
+    let sines = angles::sines();
+    extra_of(&sines, tables::terms_of(table, body), minute)
+}
+
+// The mean anomaly of a body on a minute of a table's interval.
+fn mean_at(table: i64, body: i64, minute: i64) -> Angle
+    requires { ⌜ Body body ⌝ }
+    requires { ⌜ OnTable table minute ⌝ }
+    ensures { λ r. ⌜ millionths r ≡ meanAt (tableRow table body) (tableTerms table body) minute ⌝ }
+{
+    let elements = elements_of(table, body, minute);
+    mean_anomaly_of(elements, extra_alone(table, body, minute))
+}
+
+// The place in HAE of J2000 of a body on a minute of a table's interval.
+pub fn place_at(sines: &[u32; 901], table: i64, body: i64, minute: i64) -> [i64; 3]
+    requires { ⌜ now sines ≡ sineEntries ⌝ }
+    requires { ⌜ Body body ⌝ }
+    requires { ⌜ OnTable table minute ⌝ }
+    ensures { λ r. ⌜ r ≡ placeAt (tableRow table body) (tableTerms table body) minute ⌝ }
+{
+    let elements = elements_of(table, body, minute);
+    let extra = extra_at(sines, table, body, minute);
+    place_of(sines, elements, mean_anomaly_of(elements, extra))
+}
+
+// The moment of a date for a body: refusals 1, 11, 2 and 3 in order.
+fn body_moment(date: Date, table: i64, body: i64) -> Moment
+    ensures { λ r. ⌜ r ≡ bodyMoment date table body ⌝ }
+{
+    let moment = tables::moment_after(date, table, 0);
+    if tables::is_body(body) {
+        return moment;
+    }
+    match moment {
+        Moment::Accepted(_) => Moment::Refused(Refusal::NoSuchBody),
+        Moment::Refused(refusal) => Moment::Refused(refusal),
+    }
 }
 
 // The six elements of a body on a date.
-pub fn elements_on_date(date: Date, body: i64) -> ElementsAnswer
-    ensures { λ r. ⌜ r ≡ elementsAnswer date body ⌝ }
+pub fn elements_on_date(date: Date, table: i64, body: i64) -> ElementsAnswer
+    ensures { λ r. ⌜ r ≡ elementsAnswer date table body ⌝ }
 {
-    match tables::moment_after(date, 0) {
-        Moment::Accepted(minute) => elements_on(minute, body),
+    match body_moment(date, table, body) {
+        Moment::Accepted(minute) => ElementsAnswer::Found(elements_of(table, body, minute)),
         Moment::Refused(refusal) => ElementsAnswer::Refused(refusal),
     }
 }
 
 // The mean anomaly of a body on a date, in one turn.
-pub fn mean_anomaly(date: Date, body: i64) -> AnomalyAnswer
-    ensures { λ r. ⌜ r ≡ meanAnswer date body ⌝ }
+pub fn mean_anomaly(date: Date, table: i64, body: i64) -> AnomalyAnswer
+    ensures { λ r. ⌜ r ≡ meanAnswer date table body ⌝ }
 {
-    match elements_on_date(date, body) {
-        ElementsAnswer::Found(found) => AnomalyAnswer::Anomaly(mean_anomaly_of(found)),
-        ElementsAnswer::Refused(refusal) => AnomalyAnswer::Refused(refusal),
+    match body_moment(date, table, body) {
+        Moment::Accepted(minute) => AnomalyAnswer::Anomaly(mean_at(table, body, minute)),
+        Moment::Refused(refusal) => AnomalyAnswer::Refused(refusal),
     }
 }

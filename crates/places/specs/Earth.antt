@@ -5,6 +5,6 @@ use lib.IntN.{ℤ}
 use Rattle.integers.specs.Triple.{zeros}
 use Rattle.places.specs.Answer.{earthAt}
 
-abbrev pub earthIf : (needed : Bool) → ℤ → List ℤ
-earthIf true m = earthAt m
-earthIf false m = zeros
+abbrev pub earthIf : (needed : Bool) → (table : ℤ) → ℤ → List ℤ
+earthIf true table m = earthAt table m
+earthIf false table m = zeros

@@ -18,8 +18,8 @@ use Rattle.dates.specs.declared.Date.{Date}
 use Rattle.dates.specs.declared.Date.the-variants.{Julian, Minutes}
 use Rattle.dates.specs.Minute.{julianMinute, minuteOfJulian, driftOf}
 use Rattle.dates.specs.Moment.{tested, momentAt, momentStatus, momentMinute}
-use Rattle.tables.specs.Table.{table1, tableRow, momentAfter}
-use Rattle.orbits.specs.Elements.{elementIn, elementsAt, meanAnomalyOf, inclinationOf}
+use Rattle.tables.specs.Table.{table1, defaultTable, tableRow, tableTerms, intervalOf, momentAfter}
+use Rattle.orbits.specs.Elements.{elementIn, elementsAt, squareTerm, periodicTerms, meanAt, inclinationOf}
 use Rattle.frames.specs.declared.Coordinates.{Coordinates}
 use Rattle.vectors.specs.Vector.{lengthOf, unitOf, crossOf, applied}
 use Rattle.frames.specs.Frame.{hciRows, solarAxis}
@@ -47,11 +47,11 @@ abbrev pub sameCoordinates : Coordinates → Coordinates → Bool
 sameCoordinates p q = same (p .x) (q .x) && (same (p .y) (q .y) && same (p .z) (q .z))
 
 abbrev pub holds : Example → Bool
-holds (isMinute d m) = same (momentStatus (momentAfter d (pos 0))) (pos 0) && same (momentMinute (momentAfter d (pos 0))) m
-holds (isRefused d n) = same (momentStatus (momentAfter d (pos 0))) n
-holds (isElement body k m x) = same (elementIn (tableRow body) k m) x
-holds (isInclination body m x) = same (inclinationOf (elementsAt (tableRow body) m)) x
-holds (isMean body m x) = same (meanAnomalyOf (elementsAt (tableRow body) m)) x
+holds (isMinute d m) = same (momentStatus (momentAfter d defaultTable (pos 0))) (pos 0) && same (momentMinute (momentAfter d defaultTable (pos 0))) m
+holds (isRefused d n) = same (momentStatus (momentAfter d defaultTable (pos 0))) n
+holds (isElement body k m x) = same (elementIn (tableRow defaultTable body) k m) x
+holds (isInclination body m x) = same (inclinationOf (elementsAt (tableRow defaultTable body) m)) x
+holds (isMean body m x) = same (meanAt (tableRow defaultTable body) (tableTerms defaultTable body) m) x
 holds (isSine t x) = same (sineOf t) x
 holds (isAnomaly e M E) = same (anomalyStatus (solvedOf e M)) (pos 0) && same (anomalyAngle (solvedOf e M)) E
 holds (isError e M E n) = eqb (errorOf (eStar e) (oneTurn M) E) n
@@ -98,5 +98,5 @@ examples =
     ∷ []
 
 pub examples-hold : T (all examples)
-unfolding momentAfter momentAt tested minuteOfJulian julianMinute ofBits table1 driftOf oneTurn sineOf cosineOf halfSine quarterSine entry plusTerms minusTerms term whole part factorial eccentric nearerOf lastBelow halved reaches errorOf F toRtn rtnTurned rtnRows solarAxis hciRows lengthOf unitOf crossOf applied endTurn rootOf rootFrom
+unfolding momentAfter momentAt tested tableRow tableTerms intervalOf squareTerm periodicTerms minuteOfJulian julianMinute ofBits table1 driftOf oneTurn sineOf cosineOf halfSine quarterSine entry plusTerms minusTerms term whole part factorial eccentric nearerOf lastBelow halved reaches errorOf F toRtn rtnTurned rtnRows solarAxis hciRows lengthOf unitOf crossOf applied endTurn rootOf rootFrom
 examples-hold = tt

@@ -5,8 +5,7 @@ ghost use mathlib.Core.Bool.{_&&_, _||_};
 ghost use Rattle.integers.specs.Range.{Within};
 ghost use Rattle.integers.specs.Triple.{PartsWithin};
 ghost use Rattle.angles.specs.Sines.{sineEntries};
-ghost use Rattle.dates.specs.Moment.{Covers};
-ghost use Rattle.tables.specs.Table.{isBody, interval1};
+ghost use Rattle.tables.specs.Table.{isBody, OnTable};
 ghost use Rattle.frames.specs.Frame.{KnownFrame, isFrame, needsEarth, turnedBetween};
 ghost use Rattle.frames.specs.Answer.{inLimits, asCoordinates};
 ghost use Rattle.places.specs.Answer.{earthAt, placeIf, placeAfter, turnIf, turnAnswer, auAnswer};
@@ -31,35 +30,42 @@ pub enum AuAnswer {
 }
 
 // The Earth's place, for frames that go by it; for the others it is not worked out.
-fn earth_for(sines: &[u32; 901], from: i64, to: i64, minute: i64) -> [i64; 3]
+fn earth_for(sines: &[u32; 901], table: i64, from: i64, to: i64, minute: i64) -> [i64; 3]
     requires { ⌜ now sines ≡ sineEntries ⌝ }
-    requires { ⌜ Covers interval1 minute ⌝ }
-    ensures { λ r. ⌜ r ≡ earthIf (needsEarth from || needsEarth to) minute ⌝ }
+    requires { ⌜ OnTable table minute ⌝ }
+    ensures { λ r. ⌜ r ≡ earthIf (needsEarth from || needsEarth to) table minute ⌝ }
 {
     let needed = frames::needs_earth(from) | frames::needs_earth(to);
     if !needed {
         return [0, 0, 0];
     }
-    orbits::place_at(sines, 3, minute)
+    orbits::place_at(sines, table, 3, minute)
 }
 
 // A vector turned on an accepted minute between two frames.
-fn turned_on(sines: &[u32; 901], from: i64, to: i64, v: [i64; 3], minute: i64) -> Coordinates
+fn turned_on(
+    sines: &[u32; 901],
+    table: i64,
+    from: i64,
+    to: i64,
+    v: [i64; 3],
+    minute: i64,
+) -> Coordinates
     requires { ⌜ now sines ≡ sineEntries ⌝ }
     requires { ⌜ KnownFrame from × KnownFrame to ⌝ }
     requires { ⌜ PartsWithin 1000000000 v ⌝ }
-    requires { ⌜ Covers interval1 minute ⌝ }
-    ensures { λ r. ⌜ r ≡ asCoordinates (turnedBetween from to (earthAt minute) v) ⌝ }
+    requires { ⌜ OnTable table minute ⌝ }
+    ensures { λ r. ⌜ r ≡ asCoordinates (turnedBetween from to (earthAt table minute) v) ⌝ }
 {
-    let earth = earth_for(sines, from, to, minute);
+    let earth = earth_for(sines, table, from, to, minute);
     frames::as_coordinates(frames::turned_between(from, to, earth, v))
 }
 
 // The place of a body in a frame on an accepted minute: refusal 3, then 4.
-fn place_on(sines: &[u32; 901], minute: i64, body: i64, frame: i64) -> PlaceAnswer
+fn place_on(sines: &[u32; 901], table: i64, minute: i64, body: i64, frame: i64) -> PlaceAnswer
     requires { ⌜ now sines ≡ sineEntries ⌝ }
-    requires { ⌜ Covers interval1 minute ⌝ }
-    ensures { λ r. ⌜ r ≡ placeIf (isBody body) (isFrame frame) body frame minute ⌝ }
+    requires { ⌜ OnTable table minute ⌝ }
+    ensures { λ r. ⌜ r ≡ placeIf (isBody body) (isFrame frame) table body frame minute ⌝ }
 {
     if !tables::is_body(body) {
         return PlaceAnswer::Refused(Refusal::NoSuchBody);
@@ -67,45 +73,46 @@ fn place_on(sines: &[u32; 901], minute: i64, body: i64, frame: i64) -> PlaceAnsw
     if !frames::is_frame(frame) {
         return PlaceAnswer::Refused(Refusal::NoSuchFrame);
     }
-    let v = orbits::place_at(sines, body, minute);
-    PlaceAnswer::Found(minute, turned_on(sines, 1, frame, v, minute))
+    let v = orbits::place_at(sines, table, body, minute);
+    PlaceAnswer::Found(minute, turned_on(sines, table, 1, frame, v, minute))
 }
 
-// The answer for a date and an offset in minutes, a body and a frame: refusals 1, 2, 3, 4 in order. The row, the sheet, the listing
-// and the single place all come this way.
+// The answer for a date and an offset in minutes, a table, a body and a frame: refusals 1, 11, 2, 3, 4 in order. The row, the sheet,
+// the listing and the single place all come this way.
 pub fn place_after(
     sines: &[u32; 901],
     date: Date,
+    table: i64,
     offset: i64,
     body: i64,
     frame: i64,
 ) -> PlaceAnswer
     requires { ⌜ now sines ≡ sineEntries ⌝ }
     requires { ⌜ Within 10000000000000 offset ⌝ }
-    ensures { λ r. ⌜ r ≡ placeAfter date offset body frame ⌝ }
+    ensures { λ r. ⌜ r ≡ placeAfter date table offset body frame ⌝ }
 {
-    match tables::moment_after(date, offset) {
-        Moment::Accepted(minute) => place_on(sines, minute, body, frame),
+    match tables::moment_after(date, table, offset) {
+        Moment::Accepted(minute) => place_on(sines, table, minute, body, frame),
         Moment::Refused(refusal) => PlaceAnswer::Refused(refusal),
     }
 }
 
 // The place on a date as three doubles in au, for the projector.
-pub fn place_in_au(sines: &[u32; 901], date: Date, body: i64, frame: i64) -> AuAnswer
+pub fn place_in_au(sines: &[u32; 901], date: Date, table: i64, body: i64, frame: i64) -> AuAnswer
     requires { ⌜ now sines ≡ sineEntries ⌝ }
-    ensures { λ r. ⌜ r ≡ auAnswer date body frame ⌝ }
+    ensures { λ r. ⌜ r ≡ auAnswer date table body frame ⌝ }
 {
-    match place_after(sines, date, 0, body, frame) {
+    match place_after(sines, date, table, 0, body, frame) {
         PlaceAnswer::Found(_, p) => AuAnswer::InAu(projector::in_au(p.x, p.y, p.z)),
         PlaceAnswer::Refused(refusal) => AuAnswer::Refused(refusal),
     }
 }
 
 // A vector turned on an accepted minute: refusal 4, then 5.
-fn turn_on(sines: &[u32; 901], minute: i64, from: i64, to: i64, v: [i64; 3]) -> Turned
+fn turn_on(sines: &[u32; 901], table: i64, minute: i64, from: i64, to: i64, v: [i64; 3]) -> Turned
     requires { ⌜ now sines ≡ sineEntries ⌝ }
-    requires { ⌜ Covers interval1 minute ⌝ }
-    ensures { λ r. ⌜ r ≡ turnIf (isFrame from && isFrame to) (inLimits v) from to v minute ⌝ }
+    requires { ⌜ OnTable table minute ⌝ }
+    ensures { λ r. ⌜ r ≡ turnIf (isFrame from && isFrame to) (inLimits v) table from to v minute ⌝ }
 {
     if !frames::is_frame(from) {
         return Turned::Refused(Refusal::NoSuchFrame);
@@ -116,16 +123,23 @@ fn turn_on(sines: &[u32; 901], minute: i64, from: i64, to: i64, v: [i64; 3]) -> 
     if !frames::in_limits(v) {
         return Turned::Refused(Refusal::TooFar);
     }
-    Turned::Vector(turned_on(sines, from, to, v, minute))
+    Turned::Vector(turned_on(sines, table, from, to, v, minute))
 }
 
 // A vector of one frame in another on a date. The date is tested for every pair of frames.
-pub fn turn_on_date(sines: &[u32; 901], date: Date, from: i64, to: i64, v: [i64; 3]) -> Turned
+pub fn turn_on_date(
+    sines: &[u32; 901],
+    date: Date,
+    table: i64,
+    from: i64,
+    to: i64,
+    v: [i64; 3],
+) -> Turned
     requires { ⌜ now sines ≡ sineEntries ⌝ }
-    ensures { λ r. ⌜ r ≡ turnAnswer date from to v ⌝ }
+    ensures { λ r. ⌜ r ≡ turnAnswer date table from to v ⌝ }
 {
-    match tables::moment_after(date, 0) {
-        Moment::Accepted(minute) => turn_on(sines, minute, from, to, v),
+    match tables::moment_after(date, table, 0) {
+        Moment::Accepted(minute) => turn_on(sines, table, minute, from, to, v),
         Moment::Refused(refusal) => Turned::Refused(refusal),
     }
 }

@@ -1,11 +1,11 @@
-// The numbered refusals of document 01, one case for each. Later numbers are further cases.
+// The numbered refusals of documents 01 and 02, one case for each. Later numbers are further cases.
 ghost use mathlib.Core.Path.{_≡_};
 ghost use Rattle.refusals.specs.Number.{numberOf};
 
 pub enum Refusal {
     // 1: a Julian date that is not finite.
     NotFinite,
-    // 2: minutes outside the interval.
+    // 2: minutes outside the interval of the table named.
     OutsideInterval,
     // 3: a body that is not 1 to 9.
     NoSuchBody,
@@ -23,9 +23,11 @@ pub enum Refusal {
     NoRow,
     // 10: a sheet's step that is not 1 to 1,000,000, or its count not 0 to 400.
     NoSheet,
+    // 11: a table that is not 1 or 2.
+    NoSuchTable,
 }
 
-// The refusal's number in document 01's table.
+// The refusal's number.
 pub fn number(refusal: Refusal) -> i64
     ensures { λ r. ⌜ r ≡ numberOf refusal ⌝ }
 {
@@ -40,5 +42,6 @@ pub fn number(refusal: Refusal) -> i64
         Refusal::ShortBuffer => 8,
         Refusal::NoRow => 9,
         Refusal::NoSheet => 10,
+        Refusal::NoSuchTable => 11,
     }
 }

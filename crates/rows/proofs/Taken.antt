@@ -20,10 +20,11 @@ use Rattle.integers.proofs.Number.{w-fits}
 use Rattle.integers.proofs.Ranges.{of-test, range-within, range-size, range-most}
 use Rattle.integers.proofs.Same.{same-eq}
 use Rattle.dates.specs.Moment.{covers}
-use Rattle.tables.specs.Table.{Body, isBody, interval1}
+use Rattle.tables.specs.Table.{Body, isBody, intervalOf}
+use Rattle.tables.proofs.Laws.{first-near, last-near}
 use Rattle.rows.specs.declared.Row.{Row}
 use Rattle.layouts.specs.Layout.{areZeros}
-use Rattle.rows.specs.Fields.{widths1, rowNumbers, isFrame1, isGood, isRefused, isRow}
+use Rattle.rows.specs.Fields.{widths1, rowNumbers, rowTable, isFrame1, isGood, isRefused, isRow}
 use Rattle.layouts.proofs.Layouts.{Holds, AllHeld, none, more}
 
 -- ---- a number in eight bytes, and one from 0 to 255 in one
@@ -63,11 +64,11 @@ good-held r counts t =
     let status = same (r .status) (pos 0) in
     let body = isBody (r .body) in
     let frame = isFrame1 (r .frame) in
-    let d = and-yes (status && body && frame) (covers interval1 (r .minutes)) t in
+    let d = and-yes (status && body && frame) (covers (intervalOf rowTable) (r .minutes)) t in
     let c = and-yes (status && body) frame (d .0) in
     let b = and-yes status body (c .0) in
     let known : Body (r .body) = of-test _ _ _ (b .1) in
-    let minutes = range-within (interval1 .first) (interval1 .last) (r .minutes) (natAbs (interval1 .first)) (of-test _ _ _ (d .1)) (omega arith) (omega arith) in
+    let minutes = range-within (intervalOf rowTable .first) (intervalOf rowTable .last) (r .minutes) 2630000000 (of-test _ _ _ (d .1)) (first-near rowTable .within) (last-near rowTable .within) in
     head-held r (subst⁻¹ (Holds 1) (same-eq (r .status) (pos 0) (b .0)) (record { held = refl }))
     (more (holds-byte (r .body) (omega arith) known)
     (more (holds-byte (r .frame) (omega arith) (of-test (pos 1) (pos 5) (r .frame) (c .1)))

@@ -9,6 +9,7 @@ use Rattle.rows.specs.declared.ReadAnswer.{ReadAnswer}
 use Rattle.rows.specs.declared.ReadAnswer.the-variants.{Found, Refused}
 use Rattle.rows.specs.declared.Row.{Row}
 use Rattle.rows.specs.declared.Written.the-variants.{Done, Refused as NotWritten}
+use Rattle.tables.specs.Table.{intervalOf}
 use Rattle.layouts.specs.Bytes.{bigEndian, bigFrom, fieldBytes}
 use Rattle.layouts.specs.Layout.{bytesOf, numbersIn}
 use Rattle.rows.specs.Fields.{goodRow, bareRow, rowBytes, refusedBytes, isGood, isRefused, isRow, areRow, statusAt}
@@ -69,7 +70,7 @@ readings =
     ∷ []
 
 pub readings-are : map (λ (e : List ℕ × ReadAnswer). readOf (e .0)) readings ≡ map (λ (e : List ℕ × ReadAnswer). e .1) readings
-unfolding readOf areRow isRow isGood isRefused numbersIn bigFrom bigEndian
+unfolding readOf areRow isRow isGood isRefused intervalOf numbersIn bigFrom bigEndian
 readings-are = refl
 
 -- a slice that is no row has document 01's number 9, and zeros
@@ -79,7 +80,7 @@ nothing-read = (refl, refl)
 
 -- 38 bytes are overwritten, and the next stays; 37 are too few, whatever the fields are; fields that are none come second
 pub writings : (written mars (replicate 39 7) ≡ (Done, marsBytes ++ 7 ∷ [])) × (written (bareRow (pos 0)) (replicate 37 7) ≡ (NotWritten ShortBuffer, replicate 37 7)) × (written (bareRow (pos 0)) (replicate 38 7) ≡ (NotWritten NoRow, replicate 38 7))
-unfolding written rowBytes isRow isGood isRefused bytesOf bigEndian
+unfolding written rowBytes isRow isGood isRefused intervalOf bytesOf bigEndian
 writings = (refl, refl, refl)
 
 -- the status bytes of two rows

@@ -7,7 +7,7 @@ use lib.ListN.{take, drop, getD, replicate}
 use Rattle.integers.specs.Range.{isFromTo}
 use Rattle.integers.specs.Sign.{same}
 use Rattle.dates.specs.Moment.{covers}
-use Rattle.tables.specs.Table.{isBody, interval1}
+use Rattle.tables.specs.Table.{isBody, intervalOf}
 use Rattle.rows.specs.declared.Row.{Row}
 use Rattle.layouts.specs.Layout.{bytesOf, areZeros}
 
@@ -60,13 +60,17 @@ bareRow number = record { status = number; body = pos 0; frame = pos 0; minutes 
 unfoldable pub refusedBytes : ℤ → List ℕ
 refusedBytes number = bytesOf (take 3 widths1) (rowLength ∷ rowVersion ∷ number ∷ []) ++ replicate 34 0
 
+-- 02, Item 1: "Rows and sheets stay with table 1 for now". A row of version 1 is one of Table 1
+abbrev pub rowTable : ℤ
+rowTable = pos 1
+
 -- "Frames": "1 HAE of J2000; 2 GEI of J2000; 3 HCI; 4 HEE; 5 HEEQ". A row of version 1 knows these five; later frames do not enter it
 abbrev pub isFrame1 : ℤ → Bool
 isFrame1 frame = isFromTo (pos 1) (pos 5) frame
 
 -- "status 0 with a known body and frame and a date in the interval, any x, y, z"
 unfoldable pub isGood : Row → Bool
-isGood row = same (row .status) (pos 0) && isBody (row .body) && isFrame1 (row .frame) && covers interval1 (row .minutes)
+isGood row = same (row .status) (pos 0) && isBody (row .body) && isFrame1 (row .frame) && covers (intervalOf rowTable) (row .minutes)
 
 -- "or status 1 to 4 with 34 zeros": the fields after the status have those 34 bytes
 unfoldable pub isRefused : Row → Bool

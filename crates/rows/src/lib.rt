@@ -18,6 +18,9 @@ const LENGTH: i64 = 36;
 
 const VERSION: i64 = 1;
 
+// The table that rows of this version are of.
+pub const ROW_TABLE: i64 = 1;
+
 // The layout of version 1, in bytes: length, version, status, body, frame, minutes, x, y, z.
 const WIDTHS: [usize; 9] = [2, 1, 1, 1, 1, 8, 8, 8, 8];
 
@@ -100,7 +103,7 @@ fn numbers_in_row(bytes: &[u8]) -> [i64; 9]
 fn is_good(row: Row) -> bool
     ensures { λ r. ⌜ r ≡ isGood row ⌝ }
 {
-    let interval = tables::interval();
+    let interval = tables::interval_of(ROW_TABLE);
     integers::are_same(row.status, 0)
         & tables::is_body(row.body)
         & integers::is_from_to(1, 5, row.frame)

@@ -19,7 +19,7 @@ use Rattle.dates.specs.declared.Date.{Date}
 use Rattle.places.specs.declared.PlaceAnswer.{PlaceAnswer}
 use Rattle.places.specs.declared.PlaceAnswer.the-variants.{Found, Refused}
 use Rattle.places.specs.Answer.{placeAnswer}
-use Rattle.rows.specs.Fields.{rowSize, goodRow}
+use Rattle.rows.specs.Fields.{rowSize, rowTable, goodRow}
 use Rattle.rows.proofs.RoundTrip.{a-row-has-its-size, a-refused-row-has-its-size}
 use Rattle.sheets.specs.Row.{bytesFor, answerWritten, rowIf, rowWritten}
 use Rattle.sheets.specs.Sheet.{answerAt, rowsOf, oneIf, goodOf, isSheet, answered, sheetIf, sheetWritten}
@@ -32,11 +32,11 @@ bytes-long body frame (Refused r) = a-refused-row-has-its-size (numberOf r)
 module _ (date : Date) (body frame : ℤ) (before : List ℕ) where
   pub row-short : length before < rowSize → rowWritten date body frame before ≡ (numberOf ShortBuffer, before)
   unfolding rowWritten
-  row-short h = ap (λ (b : Bool). rowIf b body frame (placeAnswer date body frame) before) (lt-leb rowSize (length before) h)
+  row-short h = ap (λ (b : Bool). rowIf b body frame (placeAnswer date rowTable body frame) before) (lt-leb rowSize (length before) h)
 
-  pub row-by : rowSize ≤ length before → rowWritten date body frame before ≡ answerWritten body frame (placeAnswer date body frame) before
+  pub row-by : rowSize ≤ length before → rowWritten date body frame before ≡ answerWritten body frame (placeAnswer date rowTable body frame) before
   unfolding rowWritten
-  row-by h = ap (λ (b : Bool). rowIf b body frame (placeAnswer date body frame) before) (le-leb rowSize (length before) h)
+  row-by h = ap (λ (b : Bool). rowIf b body frame (placeAnswer date rowTable body frame) before) (le-leb rowSize (length before) h)
 
 -- ---- the sheet
 module _ (start : Date) (step body frame : ℤ) where

@@ -14,6 +14,7 @@ use mir.Syntax.{w64}
 use mir.Val.{SFits}
 use Rattle.integers.proofs.Number.{w-fits, w-lit}
 use Rattle.integers.proofs.Table.{yes, or-left, or-right}
+use Rattle.refusals.specs.declared.Refusal.{Refusal}
 use Rattle.refusals.proofs.Numbers.{number-is}
 use Rattle.sheets.specs.declared.SheetAnswer.{SheetAnswer}
 use Rattle.integers.specs.Range.{FromTo, isFromTo}
@@ -27,14 +28,14 @@ use Rattle.dates.specs.declared.Minute.the-variants.{At, NotFinite}
 use Rattle.dates.specs.declared.Moment.{Moment}
 use Rattle.dates.specs.Minute.{minuteOf}
 use Rattle.dates.specs.Moment.{covers}
-use Rattle.tables.specs.Table.{isBody, interval1}
+use Rattle.tables.specs.Table.{isBody, intervalOf}
 use Rattle.tables.proofs.Laws.{after-minute, after-not-finite}
 use Rattle.places.specs.declared.PlaceAnswer.{PlaceAnswer}
 use Rattle.places.specs.declared.PlaceAnswer.the-variants.{Found, Refused}
 use Rattle.places.specs.Answer.{placeOn, placeAfter, placeAnswer}
-use Rattle.places.proofs.Answers.{found-is, refused-is, found-exact}
+use Rattle.places.proofs.Answers.{IsRefused, first-four, eleven, found-is, refused-is, found-exact}
 use Rattle.rows.specs.declared.ReadAnswer.the-variants.{Found as FoundRow}
-use Rattle.rows.specs.Fields.{rowSize, bareRow, rowBytes, isFrame1, isGood, isRefused, isRow, refusedBytes, statusAt}
+use Rattle.rows.specs.Fields.{rowSize, rowTable, bareRow, rowBytes, isFrame1, isGood, isRefused, isRow, refusedBytes, statusAt}
 use Rattle.rows.specs.declared.Written.the-variants.{Done}
 use Rattle.rows.specs.Answer.{readOf, writtenIf, written}
 use Rattle.rows.proofs.Taken.{Counts}
@@ -43,22 +44,26 @@ use Rattle.sheets.specs.Row.{rowFor, bytesFor, rowWritten}
 use Rattle.sheets.specs.Sheet.{answerAt, bytesAt, rowsOf, goodOf, isSheet, sheetWritten, goodIn, oneFor, oneIf}
 use Rattle.sheets.proofs.Laws.{bytes-long, row-by, sheet-by}
 
+-- ---- a row's table is one that there is, so that 11 does not stand in a row
+one-of-four : (r : Refusal) → IsRefused rowTable r → FromTo (pos 1) (pos 4) (numberOf r)
+one-of-four r (first-four h) = h
+one-of-four r (eleven e n) = absurd (n (of-test (pos 1) (pos 2) rowTable tt))
+
 -- ---- an answer's fields are a row's
 module _ (date : Date) (offset body frame : ℤ) where
-  is-row : (answer : PlaceAnswer) → placeAfter date offset body frame ≡ answer → T (isRow (rowFor body frame answer))
+  is-row : (answer : PlaceAnswer) → placeAfter date rowTable offset body frame ≡ answer → T (isRow (rowFor body frame answer))
   unfolding isRow isGood isRefused
   is-row (Found m p) e =
-      let f = found-is date offset body frame m p e in
+      let f = found-is date rowTable offset body frame m p e in
       let known = yes-and (isBody body) (isFrame1 frame) (to-test (pos 1) (pos 9) body (f .known-body)) (to-test (pos 1) (pos 5) frame (f .known-frame)) in
-      or-left (isBody body && isFrame1 frame && covers interval1 m) false
-      (yes-and (isBody body && isFrame1 frame) (covers interval1 m) known (to-test (interval1 .first) (interval1 .last) m (f .covered)))
+      or-left (isBody body && isFrame1 frame && covers (intervalOf rowTable) m) false
+      (yes-and (isBody body && isFrame1 frame) (covers (intervalOf rowTable) m) known (to-test (intervalOf rowTable .first) (intervalOf rowTable .last) m (f .on-table .covered)))
   is-row (Refused r) e =
-      let f = refused-is date offset body frame r e in
       or-right (isGood (bareRow (numberOf r))) (isFromTo (pos 1) (pos 4) (numberOf r) && true)
-      (yes-and (isFromTo (pos 1) (pos 4) (numberOf r)) true (to-test (pos 1) (pos 4) (numberOf r) (f .number)) tt)
+      (yes-and (isFromTo (pos 1) (pos 4) (numberOf r)) true (to-test (pos 1) (pos 4) (numberOf r) (one-of-four r (refused-is date rowTable offset body frame r e))) tt)
 
-  counts : (answer : PlaceAnswer) → placeAfter date offset body frame ≡ answer → Counts (rowFor body frame answer)
-  counts (Found m p) e = let f = found-exact date offset body frame m p e in record { x = w-fits (f .x-exact) tt; y = w-fits (f .y-exact) tt; z = w-fits (f .z-exact) tt }
+  counts : (answer : PlaceAnswer) → placeAfter date rowTable offset body frame ≡ answer → Counts (rowFor body frame answer)
+  counts (Found m p) e = let f = found-exact date rowTable offset body frame m p e in record { x = w-fits (f .x-exact) tt; y = w-fits (f .y-exact) tt; z = w-fits (f .z-exact) tt }
   counts (Refused r) e = let z : SFits w64 (pos 0) = w-fits (w-lit (pos 0)) tt in record { x = z; y = z; z = z }
 
   laid-out : (answer : PlaceAnswer) → bytesFor body frame answer ≡ rowBytes (rowFor body frame answer)
@@ -66,29 +71,29 @@ module _ (date : Date) (offset body frame : ℤ) where
   laid-out (Refused r) = sym (a-refused-row-is-a-row-of-zeros (numberOf r))
 
   -- whatever date, body, frame and offset: a reader takes the bytes, with exactly those fields, whatever follows them
-  pub a-written-row-is-a-row : (rest : List ℕ) → readOf (bytesFor body frame (placeAfter date offset body frame) ++ rest) ≡ FoundRow (rowFor body frame (placeAfter date offset body frame))
+  pub a-written-row-is-a-row : (rest : List ℕ) → readOf (bytesFor body frame (placeAfter date rowTable offset body frame) ++ rest) ≡ FoundRow (rowFor body frame (placeAfter date rowTable offset body frame))
   a-written-row-is-a-row rest =
-      let a = placeAfter date offset body frame in
+      let a = placeAfter date rowTable offset body frame in
       ap (λ (b : List ℕ). readOf (b ++ rest)) (laid-out a) ∙ reading-gives-what-was-written (rowFor body frame a) (counts a refl) (is-row a refl) rest
 
   -- and a writer of those fields leaves the same bytes: the round trip holds for every written row
-  pub a-written-row-goes-round : (before : List ℕ) → rowSize ≤ length before → written (rowFor body frame (placeAfter date offset body frame)) before ≡ (Done, bytesFor body frame (placeAfter date offset body frame) ++ drop rowSize before)
+  pub a-written-row-goes-round : (before : List ℕ) → rowSize ≤ length before → written (rowFor body frame (placeAfter date rowTable offset body frame)) before ≡ (Done, bytesFor body frame (placeAfter date rowTable offset body frame) ++ drop rowSize before)
   unfolding written
   a-written-row-goes-round before h =
-      let a = placeAfter date offset body frame in
+      let a = placeAfter date rowTable offset body frame in
       (λ i. writtenIf (le-leb rowSize (length before) h i) (yes (isRow (rowFor body frame a)) (is-row a refl) i) (rowFor body frame a) before)
       ∙ ap (λ (b : List ℕ). (Done, b ++ drop rowSize before)) (sym (laid-out a))
 
   -- only statuses 0 to 4 ever stand in one
-  pub a-written-status-is-0-to-4 : FromTo (pos 0) (pos 4) (rowFor body frame (placeAfter date offset body frame) .status)
-  a-written-status-is-0-to-4 = go (placeAfter date offset body frame) refl
+  pub a-written-status-is-0-to-4 : FromTo (pos 0) (pos 4) (rowFor body frame (placeAfter date rowTable offset body frame) .status)
+  a-written-status-is-0-to-4 = go (placeAfter date rowTable offset body frame) refl
     where
-      go : (answer : PlaceAnswer) → placeAfter date offset body frame ≡ answer → FromTo (pos 0) (pos 4) (rowFor body frame answer .status)
+      go : (answer : PlaceAnswer) → placeAfter date rowTable offset body frame ≡ answer → FromTo (pos 0) (pos 4) (rowFor body frame answer .status)
       go (Found m p) e = of-test (pos 0) (pos 4) (pos 0) tt
-      go (Refused r) e = range-more (refused-is date offset body frame r e .number) tt tt
+      go (Refused r) e = range-more (one-of-four r (refused-is date rowTable offset body frame r e)) tt tt
 
 -- the row that a row call leaves
-pub a-row-call-leaves-a-row : (date : Date) (body frame : ℤ) (before : List ℕ) → rowSize ≤ length before → readOf (rowWritten date body frame before .1) ≡ FoundRow (rowFor body frame (placeAnswer date body frame))
+pub a-row-call-leaves-a-row : (date : Date) (body frame : ℤ) (before : List ℕ) → rowSize ≤ length before → readOf (rowWritten date body frame before .1) ≡ FoundRow (rowFor body frame (placeAnswer date rowTable body frame))
 a-row-call-leaves-a-row date body frame before h =
     ap (λ (w : ℤ × List ℕ). readOf (w .1)) (row-by date body frame before h) ∙ a-written-row-is-a-row date (pos 0) body frame (drop rowSize before)
 
@@ -135,14 +140,14 @@ module _ (start : Date) (step count body frame : ℤ) (before : List ℕ) (is : 
       ∙ a-written-row-is-a-row start (step *ℤ pos k) body frame (drop rowSize (drop (rowSize * k) after))
 
   -- "start, start + step, and so on, sums taken exactly": the row that a row call leaves for that minute
-  pub row-k-is-that-of-its-own-date : (m : ℤ) (k : ℕ) → minuteOf start ≡ At m → k < natAbs count → take rowSize (drop (rowSize * k) after) ≡ bytesFor body frame (placeAnswer (Minutes (m +ℤ step *ℤ pos k)) body frame)
+  pub row-k-is-that-of-its-own-date : (m : ℤ) (k : ℕ) → minuteOf start ≡ At m → k < natAbs count → take rowSize (drop (rowSize * k) after) ≡ bytesFor body frame (placeAnswer (Minutes (m +ℤ step *ℤ pos k)) rowTable body frame)
   row-k-is-that-of-its-own-date m k e h =
-      row-k-stands-by-itself k h ∙ ap (λ (o : Moment). bytesFor body frame (placeOn o body frame)) (after-minute start (step *ℤ pos k) m e)
+      row-k-stands-by-itself k h ∙ ap (λ (o : Moment). bytesFor body frame (placeOn o rowTable body frame)) (after-minute start rowTable (step *ℤ pos k) m e)
 
   -- "with a start that is not finite every row has status 1"
   pub every-row-has-status-1 : (k : ℕ) → minuteOf start ≡ NotFinite → k < natAbs count → take rowSize (drop (rowSize * k) after) ≡ refusedBytes (pos 1)
   every-row-has-status-1 k e h =
-      row-k-stands-by-itself k h ∙ ap (λ (o : Moment). bytesFor body frame (placeOn o body frame)) (after-not-finite start (step *ℤ pos k) e)
+      row-k-stands-by-itself k h ∙ ap (λ (o : Moment). bytesFor body frame (placeOn o rowTable body frame)) (after-not-finite start rowTable (step *ℤ pos k) e)
 
   -- the number answered is that of the rows of status 0 that stand in the result
   pub good-is-counted : sheetWritten start step count body frame before .0 .good ≡ goodIn after (natAbs count)

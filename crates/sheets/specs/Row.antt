@@ -13,7 +13,7 @@ use Rattle.places.specs.declared.PlaceAnswer.{PlaceAnswer}
 use Rattle.places.specs.declared.PlaceAnswer.the-variants.{Found, Refused}
 use Rattle.places.specs.Answer.{placeAnswer, placeStatus}
 use Rattle.rows.specs.declared.Row.{Row}
-use Rattle.rows.specs.Fields.{rowSize, goodRow, bareRow, rowBytes, refusedBytes}
+use Rattle.rows.specs.Fields.{rowSize, rowTable, goodRow, bareRow, rowBytes, refusedBytes}
 
 -- the fields of the row of an answer: the place with its minute, or nothing but the refusal's number
 abbrev pub rowFor : ℤ → ℤ → PlaceAnswer → Row
@@ -34,6 +34,6 @@ abbrev pub rowIf : (room : Bool) → ℤ → ℤ → PlaceAnswer → List ℕ �
 rowIf false body frame answer before = (numberOf ShortBuffer, before)
 rowIf true body frame answer before = answerWritten body frame answer before
 
--- the status, and the bytes that are left
+-- the status, and the bytes that are left; the place is Table 1's (02, Item 1)
 unfoldable pub rowWritten : Date → ℤ → ℤ → List ℕ → ℤ × List ℕ
-rowWritten date body frame before = rowIf (leb rowSize (length before)) body frame (placeAnswer date body frame) before
+rowWritten date body frame before = rowIf (leb rowSize (length before)) body frame (placeAnswer date rowTable body frame) before

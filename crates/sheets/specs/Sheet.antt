@@ -13,13 +13,13 @@ use Rattle.dates.specs.declared.Date.{Date}
 use Rattle.places.specs.declared.PlaceAnswer.{PlaceAnswer}
 use Rattle.places.specs.declared.PlaceAnswer.the-variants.{Found, Refused}
 use Rattle.places.specs.Answer.{placeAfter}
-use Rattle.rows.specs.Fields.{rowSize, statusAt}
+use Rattle.rows.specs.Fields.{rowSize, rowTable, statusAt}
 use Rattle.sheets.specs.declared.SheetAnswer.{SheetAnswer}
 use Rattle.sheets.specs.Row.{bytesFor}
 
 -- the answer of row k, k counted from 0: "each row stands by itself"
 abbrev pub answerAt : Date → ℤ → ℤ → ℤ → ℕ → PlaceAnswer
-answerAt start step body frame k = placeAfter start (step *ℤ pos k) body frame
+answerAt start step body frame k = placeAfter start rowTable (step *ℤ pos k) body frame
 
 -- its bytes, and those of the first n rows
 abbrev pub bytesAt : Date → ℤ → ℤ → ℤ → ℕ → List ℕ

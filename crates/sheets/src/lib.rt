@@ -14,6 +14,7 @@ use frames::Coordinates;
 use places::PlaceAnswer;
 use refusals::Refusal;
 use rows::ROW_BYTES;
+use rows::ROW_TABLE;
 
 // Document 01's number for the sheet as a whole, and how many of its rows have status 0.
 pub struct SheetAnswer {
@@ -61,7 +62,7 @@ pub fn row(date: Date, body: i64, frame: i64, bytes: &mut [u8]) -> i64
     put_answer(
         body,
         frame,
-        places::place_after(&sines, date, 0, body, frame),
+        places::place_after(&sines, date, ROW_TABLE, 0, body, frame),
         bytes,
     )
 }
@@ -85,7 +86,7 @@ fn fill(
     let mut i: usize = 0;
     while i < count {
         let at = ROW_BYTES * i;
-        let answer = places::place_after(sines, start, step * (i as i64), body, frame);
+        let answer = places::place_after(sines, start, ROW_TABLE, step * (i as i64), body, frame);
         i += 1;
         let PlaceAnswer::Found(minute, p) = answer else {
             put_answer(body, frame, answer, &mut bytes[at..]);

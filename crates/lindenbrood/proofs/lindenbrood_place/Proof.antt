@@ -1,8 +1,9 @@
--- `lindenbrood_place` is the answer for a place in au.
+-- `lindenbrood_place` is the answer for a place in au by the table of a call that names none.
 -- By what the calls ensure; the numbers are read back once.
 use borrow.Author.Needs.{needs}
 use mathlib.Core.Path.{ap, _∙_}
 use Rattle.integers.proofs.Cast.{back}
+use Rattle.tables.specs.Table.{defaultTable}
 use Rattle.places.specs.Answer.{auAnswer}
 use Rattle.answers.specs.Answer.{cPlace}
 use Rattle.lindenbrood.proofs.lindenbrood_place.Statement.{statement}
@@ -13,7 +14,7 @@ returns c =
     let a = c .before in
     let d = a .before in
     let s = d .before .before .before in
-    c .au-of .ensures ∙ ap cPlace (a .place-in-au .ensures ∙ (λ i. auAnswer (d .date-of .ensures i) (back (s .args .body) (s .fits .body) i) (back (s .args .frame) (s .fits .frame) i)))
+    c .au-of .ensures ∙ ap cPlace (a .place-in-au .ensures ∙ (λ i. auAnswer (d .date-of .ensures i) defaultTable (back (s .args .body) (s .fits .body) i) (back (s .args .frame) (s .fits .frame) i)))
 
 pub lindenbrood-place-spec : {M : Type 1} → statement M
 lindenbrood-place-spec =

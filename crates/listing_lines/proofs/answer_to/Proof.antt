@@ -5,6 +5,7 @@ use mathlib.Core.Path.{_≡_, sym, ap, _∙_}
 use lib.IntN.{ℤ, pos}
 use Rattle.integers.proofs.Cast.{read, back-ok}
 use Rattle.dates.specs.declared.Date.the-variants.{Minutes}
+use Rattle.tables.specs.Table.{defaultTable}
 use Rattle.places.specs.Answer.{placeAnswer}
 use Rattle.listing_lines.specs.Line.{numbersOf, answerOf}
 use borrow.Author.Needs.{needs}
@@ -25,7 +26,7 @@ returns : tie.Need-returns
 returns c =
     let r = c .before .before in
     c .numbers-of .ensures
-    ∙ (λ i. numbersOf (body r i) (frame r i) ((c .before .place-after .ensures ∙ (λ j. placeAnswer (Minutes (minute r j)) (body r j) (frame r j))) i))
+    ∙ (λ i. numbersOf (body r i) (frame r i) ((c .before .place-after .ensures ∙ (λ j. placeAnswer (Minutes (minute r j)) defaultTable (body r j) (frame r j))) i))
     ∙ sym (ap answerOf (r .before .request .given .1))
 
 returns-2 : tie.Need-returns-2

@@ -3,11 +3,9 @@
 use borrow.Author.Needs.{needs}
 use borrow.Author.Tests.{not-true, not-false}
 use mathlib.Core.Bool.{Bool, _||_}
-use mathlib.Core.Path.{_≡_, subst, sym, ap, _∙_}
+use mathlib.Core.Path.{_≡_, sym, ap, _∙_}
 use Rattle.integers.proofs.Cast.{back}
-use Rattle.dates.specs.Moment.{Covers}
-use Rattle.tables.specs.Table.{interval1}
-use Rattle.tables.proofs.Laws.{covered-read}
+use Rattle.tables.proofs.Laws.{covered-read, on-table-read}
 use Rattle.frames.specs.Frame.{needsEarth}
 use Rattle.places.specs.Answer.{earthAt}
 use Rattle.places.specs.Earth.{earthIf}
@@ -25,20 +23,20 @@ needed c =
 returns : tie.Need-returns
 returns c =
     let d = c .before in
-    sym (ap (λ (b : Bool). earthIf b (d .before .before .args .minute)) (needed d ∙ not-true (d .before .needs-earth .result || d .needs-earth2 .result) (c .if1 .taken)))
+    sym (ap (λ (b : Bool). earthIf b (d .before .before .args .table) (d .before .before .args .minute)) (needed d ∙ not-true (d .before .needs-earth .result || d .needs-earth2 .result) (c .if1 .taken)))
 
 place-at-requires : tie.Need-place-at-requires
 place-at-requires c κs =
     let s = c .before .before .before in
-    (s .pre .0, (earth-body, subst (Covers interval1) (sym (covered-read (s .pre .1))) (s .pre .1)))
+    (s .pre .0, (earth-body, on-table-read (s .fits .table) (s .pre .1)))
 
 returns-2 : tie.Need-returns-2
 returns-2 c =
     let e = c .before in
     let d = e .before in
     let s = d .before .before in
-    c .place-at .ensures ∙ ap earthAt (covered-read (s .pre .1))
-    ∙ sym (ap (λ (b : Bool). earthIf b (s .args .minute)) (needed d ∙ not-false (d .before .needs-earth .result || d .needs-earth2 .result) (e .if1 .left)))
+    c .place-at .ensures ∙ (λ i. earthAt (back (s .args .table) (s .fits .table) i) (covered-read (s .pre .1) i))
+    ∙ sym (ap (λ (b : Bool). earthIf b (s .args .table) (s .args .minute)) (needed d ∙ not-false (d .before .needs-earth .result || d .needs-earth2 .result) (e .if1 .left)))
 
 pub earth-for-spec : {M : Type 1} → statement M
 earth-for-spec =

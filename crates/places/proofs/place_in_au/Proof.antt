@@ -14,16 +14,16 @@ use Rattle.places.proofs.place_in_au.Statement.{statement}
 use Rattle.places.proofs.place_in_au.Tie as tie
 
 -- the answer for the date, of the numbers themselves
-answered : (c : tie.After-place-after) → placeAnswer (c .before .args .date) (c .before .args .body) (c .before .args .frame) ≡ c .place-after .result
+answered : (c : tie.After-place-after) → placeAnswer (c .before .args .date) (c .before .args .table) (c .before .args .body) (c .before .args .frame) ≡ c .place-after .result
 answered c =
     let s = c .before in
-    sym (c .place-after .ensures ∙ (λ i. placeAnswer (s .args .date) (back (s .args .body) (s .fits .body) i) (back (s .args .frame) (s .fits .frame) i)))
+    sym (c .place-after .ensures ∙ (λ i. placeAnswer (s .args .date) (back (s .args .table) (s .fits .table) i) (back (s .args .body) (s .fits .body) i) (back (s .args .frame) (s .fits .frame) i)))
 
-told : (c : tie.After-p) → placeAnswer (c .before .before .before .args .date) (c .before .before .before .args .body) (c .before .before .before .args .frame) ≡ Found (c .p .given .0 .0) (c .p .given .0 .1 .0)
+told : (c : tie.After-p) → placeAnswer (c .before .before .before .args .date) (c .before .before .before .args .table) (c .before .before .before .args .body) (c .before .before .before .args .frame) ≡ Found (c .p .given .0 .0) (c .p .given .0 .1 .0)
 told c = answered (c .before .before) ∙ c .p .given .1
 
 counts : (c : tie.After-p) → CountsExact (c .p .given .0 .1 .0 .x) (c .p .given .0 .1 .0 .y) (c .p .given .0 .1 .0 .z)
-counts c = let s = c .before .before .before in found-exact (s .args .date) (pos 0) (s .args .body) (s .args .frame) (c .p .given .0 .0) (c .p .given .0 .1 .0) (told c)
+counts c = let s = c .before .before .before in found-exact (s .args .date) (s .args .table) (pos 0) (s .args .body) (s .args .frame) (c .p .given .0 .0) (c .p .given .0 .1 .0) (told c)
 
 in-au-requires : tie.Need-in-au-requires
 in-au-requires c κs =

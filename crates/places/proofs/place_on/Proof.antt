@@ -8,9 +8,8 @@ use lib.IntN.{pos}
 use Rattle.integers.specs.Triple.{PartsWithin}
 use Rattle.integers.proofs.Cast.{read, back}
 use Rattle.integers.proofs.Ranges.{inside-of}
-use Rattle.dates.specs.Moment.{Covers}
-use Rattle.tables.specs.Table.{Body, isBody, interval1}
-use Rattle.tables.proofs.Laws.{covered-read}
+use Rattle.tables.specs.Table.{Body, isBody, OnTable}
+use Rattle.tables.proofs.Laws.{covered-read, on-table-read}
 use Rattle.orbits.proofs.Rows.{table-place-within}
 use Rattle.frames.specs.Frame.{KnownFrame, isFrame, turnedBetween}
 use Rattle.frames.specs.Answer.{asCoordinates}
@@ -27,15 +26,18 @@ module _ (s : tie.Start) where
   frame-is : read (s .args .frame) ≡ s .args .frame
   frame-is = back (s .args .frame) (s .fits .frame)
 
+  table-is : read (s .args .table) ≡ s .args .table
+  table-is = back (s .args .table) (s .fits .table)
+
   minute-is : read (s .args .minute) ≡ s .args .minute
   minute-is = covered-read (s .pre .1)
 
-  covered : Covers interval1 (read (s .args .minute))
-  covered = subst (Covers interval1) (sym minute-is) (s .pre .1)
+  on-table : OnTable (read (s .args .table)) (read (s .args .minute))
+  on-table = on-table-read (s .fits .table) (s .pre .1)
 
   -- the answer by the outcomes of the two tests
-  by : {b f : Bool} → isBody (s .args .body) ≡ b → isFrame (s .args .frame) ≡ f → placeIf (isBody (s .args .body)) (isFrame (s .args .frame)) (s .args .body) (s .args .frame) (s .args .minute) ≡ placeIf b f (s .args .body) (s .args .frame) (s .args .minute)
-  by p q i = placeIf (p i) (q i) (s .args .body) (s .args .frame) (s .args .minute)
+  by : {b f : Bool} → isBody (s .args .body) ≡ b → isFrame (s .args .frame) ≡ f → placeIf (isBody (s .args .body)) (isFrame (s .args .frame)) (s .args .table) (s .args .body) (s .args .frame) (s .args .minute) ≡ placeIf b f (s .args .table) (s .args .body) (s .args .frame) (s .args .minute)
+  by p q i = placeIf (p i) (q i) (s .args .table) (s .args .body) (s .args .frame) (s .args .minute)
 
 body-test : (c : tie.After-is-body) → isBody (c .before .args .body) ≡ c .is-body .result
 body-test c = sym (c .is-body .ensures ∙ ap isBody (body-is (c .before)))
@@ -65,12 +67,12 @@ place-at-requires : tie.Need-place-at-requires
 place-at-requires c κs =
     let e = c .before .before in
     let s = e .before .before in
-    (s .pre .0, (subst Body (sym (body-is s)) (known-body e), covered s))
+    (s .pre .0, (subst Body (sym (body-is s)) (known-body e), on-table s))
 
-hae-is : (c : tie.After-place-at) → c .place-at .result ≡ haeAt (c .before .before .before .before .before .args .body) (c .before .before .before .before .before .args .minute)
+hae-is : (c : tie.After-place-at) → c .place-at .result ≡ haeAt (c .before .before .before .before .before .args .table) (c .before .before .before .before .before .args .body) (c .before .before .before .before .before .args .minute)
 hae-is c =
     let s = c .before .before .before .before .before in
-    c .place-at .ensures ∙ (λ i. haeAt (body-is s i) (minute-is s i))
+    c .place-at .ensures ∙ (λ i. haeAt (table-is s i) (body-is s i) (minute-is s i))
 
 turned-on-requires : tie.Need-turned-on-requires
 turned-on-requires c κs =
@@ -80,7 +82,7 @@ turned-on-requires c κs =
       s .pre .0,
       (
         (hae-frame, subst KnownFrame (sym (frame-is s)) (inside-of (pos 1) (pos 5) (s .args .frame) (has-frame f))),
-        (subst (PartsWithin 1000000000) (sym (hae-is c)) (table-place-within (s .args .body) (s .args .minute) (known-body e) (s .pre .1)), covered s),
+        (subst (PartsWithin 1000000000) (sym (hae-is c)) (table-place-within (s .args .table) (s .args .body) (s .args .minute) (known-body e) (s .pre .1)), on-table s),
       ),
     )
 
@@ -90,7 +92,7 @@ returns-3 c =
     let f = h .before in
     let e = f .before .before in
     let s = e .before .before in
-    let p = c .turned-on .ensures ∙ (λ i. asCoordinates (turnedBetween (pos 1) (frame-is s i) (earthAt (minute-is s i)) (hae-is h i))) in
+    let p = c .turned-on .ensures ∙ (λ i. asCoordinates (turnedBetween (pos 1) (frame-is s i) (earthAt (table-is s i) (minute-is s i)) (hae-is h i))) in
     (λ i. Found (minute-is s i) (p i)) ∙ sym (by s (has-body e) (has-frame f))
 
 pub place-on-spec : {M : Type 1} → statement M

@@ -13,9 +13,7 @@ use Rattle.integers.proofs.Triples.{parts-more}
 use Rattle.frames.proofs.Choice.{limits-parts}
 use Rattle.places.specs.Answer.{earthAt, turnIf}
 use Rattle.integers.proofs.Ranges.{inside-of}
-use Rattle.tables.specs.Table.{interval1}
-use Rattle.tables.proofs.Laws.{covered-read}
-use Rattle.dates.specs.Moment.{Covers}
+use Rattle.tables.proofs.Laws.{covered-read, on-table-read}
 use Rattle.places.proofs.turn_on.Statement.{statement}
 use Rattle.places.proofs.turn_on.Tie as tie
 
@@ -27,8 +25,8 @@ module _ (s : tie.Start) where
   to-is = back (s .args .to) (s .fits .to)
 
   -- the answer by the outcomes of the three tests
-  by : {a b r : Bool} → isFrame (s .args .from) ≡ a → isFrame (s .args .to) ≡ b → inLimits (s .args .v) ≡ r → turnIf (isFrame (s .args .from) && isFrame (s .args .to)) (inLimits (s .args .v)) (s .args .from) (s .args .to) (s .args .v) (s .args .minute) ≡ turnIf (a && b) r (s .args .from) (s .args .to) (s .args .v) (s .args .minute)
-  by e f g i = turnIf (e i && f i) (g i) (s .args .from) (s .args .to) (s .args .v) (s .args .minute)
+  by : {a b r : Bool} → isFrame (s .args .from) ≡ a → isFrame (s .args .to) ≡ b → inLimits (s .args .v) ≡ r → turnIf (isFrame (s .args .from) && isFrame (s .args .to)) (inLimits (s .args .v)) (s .args .table) (s .args .from) (s .args .to) (s .args .v) (s .args .minute) ≡ turnIf (a && b) r (s .args .table) (s .args .from) (s .args .to) (s .args .v) (s .args .minute)
+  by e f g i = turnIf (e i && f i) (g i) (s .args .table) (s .args .from) (s .args .to) (s .args .v) (s .args .minute)
 
 -- the tests' results, of the numbers themselves
 from-test : (c : tie.After-is-frame) → isFrame (c .before .args .from) ≡ c .is-frame .result
@@ -80,8 +78,8 @@ turned-on-requires c κs =
           subst KnownFrame (sym (to-is s)) (known-frame (s .args .to) (to-known e)),
         ),
         (
-          parts-more (limits-parts (s .args .v) (s .good .1 .1 .1 .1 .0 .1 .0 .1) (near c)) tt,
-          subst (Covers interval1) (sym (covered-read (s .pre .1))) (s .pre .1),
+          parts-more (limits-parts (s .args .v) (s .good .1 .1 .1 .1 .1 .0 .1 .0 .1) (near c)) tt,
+          on-table-read (s .fits .table) (s .pre .1),
         ),
       ),
     )
@@ -91,7 +89,7 @@ returns-4 c =
     let n = c .before in
     let e = n .before .before in
     let s = e .before .before .before .before in
-    ap Vector (c .turned-on .ensures ∙ (λ i. asCoordinates (turnedBetween (from-is s i) (to-is s i) (earthAt (covered-read (s .pre .1) i)) (s .args .v))))
+    ap Vector (c .turned-on .ensures ∙ (λ i. asCoordinates (turnedBetween (from-is s i) (to-is s i) (earthAt (back (s .args .table) (s .fits .table) i) (covered-read (s .pre .1) i)) (s .args .v))))
     ∙ sym (by s (from-known (e .before .before)) (to-known e) (near n))
 
 pub turn-on-spec : {M : Type 1} → statement M

@@ -3,6 +3,7 @@
 use borrow.Author.Needs.{needs}
 use mathlib.Core.Path.{_≡_}
 use Rattle.integers.proofs.Cast.{read}
+use Rattle.tables.specs.Table.{intervalOf}
 use Rattle.rows.specs.Fields.{isGood}
 use Rattle.rows.proofs.is_good.Statement.{statement}
 use Rattle.rows.proofs.is_good.Tie as tie
@@ -11,7 +12,7 @@ read-back : (c : tie.Start) → let r = c .args .row in (read (r .status) ≡ r 
 read-back c = search needs
 
 returns : tie.Need-returns
-unfolding isGood
+unfolding isGood intervalOf
 returns c =
     let frame = c .before .before .before .before in
     let body = frame .before .before in
@@ -26,7 +27,7 @@ returns c =
       frame .is-from-to .ensures,
       back .2,
       c .is-from-to2 .ensures,
-      interval .interval .ensures,
+      interval .interval-of .ensures,
       back .3,
     )
 

@@ -18,7 +18,7 @@ use Rattle.integers.proofs.Number.{Num, mul, mul-fits, of-unsigned, w-read, w-m
 use Rattle.places.specs.declared.PlaceAnswer.{PlaceAnswer}
 use Rattle.places.specs.declared.PlaceAnswer.the-variants.{Found, Refused}
 use Rattle.places.specs.Answer.{placeAfter}
-use Rattle.rows.specs.Fields.{rowSize}
+use Rattle.rows.specs.Fields.{rowSize, rowTable}
 use Rattle.sheets.specs.Row.{bytesFor}
 use Rattle.sheets.specs.Sheet.{oneIf, answerAt, rowsOf, goodOf}
 use Rattle.sheets.proofs.Laws.{bytes-long, good-more}
@@ -64,7 +64,7 @@ answer-is : (c : tie.After-place-after Inv-loop μ-loop)
     → (let s = c .before .before .before .before in c .place-after .result ≡ answerAt (s .args .start) (read (s .args .step)) (read (s .args .body)) (read (s .args .frame)) (c .before .before .loop .i))
 answer-is c =
     let s = c .before .before .before .before in
-    c .place-after .ensures ∙ ap (λ (o : ℤ). placeAfter (s .args .start) o (read (s .args .body)) (read (s .args .frame))) (offset (c .before) .is)
+    c .place-after .ensures ∙ ap (λ (o : ℤ). placeAfter (s .args .start) rowTable o (read (s .args .body)) (read (s .args .frame))) (offset (c .before) .is)
 
 -- a round that puts the row of its answer into the bytes from `at` on leaves one row more, and one good row more if it is one
 after : (c : tie.After-place-after Inv-loop μ-loop) (x : PlaceAnswer) (ys : List ℕ) → c .place-after .result ≡ x
