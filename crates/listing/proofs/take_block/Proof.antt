@@ -52,7 +52,9 @@ feed-requires c κs =
 
 loop-less : tie.Need-loop-less Inv-loop μ-loop
 loop-less c =
-    let p = c .before .before .before .before .before .before .before .before .before .before in
+    let d = c .before .before .before .before in
+    let f = d .before .before .before .before in
+    let p = f .before .before in
     omega (arith, p .part-end .ensures .some (p .before .loop-test .taken), p .part-end .ensures .within)
 
 loop-again : tie.Need-loop-again Inv-loop μ-loop
