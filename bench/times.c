@@ -12,6 +12,8 @@
 #include "double.h"
 #include "lindenbrood.h"
 
+uint64_t whole_root(uint64_t x); /* of tests/root: no call of the library */
+
 enum {
     CALLS = 8000, /* in a round: one to four milliseconds, so that some rounds run without a break */
     ROUNDS = 150,
@@ -27,6 +29,7 @@ static int64_t minutes[CALLS], nine_bodies[CALLS], eight_bodies[CALLS], angles[C
 static int64_t long_minutes[CALLS], outer_bodies[CALLS];
 static const int64_t *bodies;
 static double julian_dates[CALLS];
+static uint64_t squares[CALLS]; /* as step 4 has them: 9.3·10^17 up to 10^18 */
 
 static uint8_t rows[LINDENBROOD_MOST_ROWS * LINDENBROOD_ROW_BYTES];
 static volatile double sink; /* what is computed is used */
@@ -60,6 +63,7 @@ static void make_inputs(void)
     for (int i = 0; i < CALLS; i++) {
         long_minutes[i] = chance_between(LINDENBROOD_TABLE_2_FIRST_MINUTE, LINDENBROOD_TABLE_2_LAST_MINUTE);
         outer_bodies[i] = chance_between(LINDENBROOD_JUPITER, LINDENBROOD_NEPTUNE);
+        squares[i] = (uint64_t)chance_between(930000000000000000, 1000000000000000000);
     }
 }
 
@@ -207,6 +211,57 @@ static double our_mean_anomalies_by_table(int64_t table)
     return (double)sum;
 }
 
+static double our_roots(int64_t unused)
+{
+    uint64_t sum = 0;
+
+    (void)unused;
+    for (int i = 0; i < CALLS; i++)
+        sum += whole_root(squares[i]);
+    return (double)sum;
+}
+
+/* The root as a C host writes it. It is one too large where the double nearest to x is a square and x is below it. */
+static uint64_t plain_root(uint64_t x)
+{
+    return (uint64_t)sqrt((double)x);
+}
+
+static double plain_roots(int64_t unused)
+{
+    uint64_t sum = 0;
+
+    (void)unused;
+    for (int i = 0; i < CALLS; i++)
+        sum += plain_root(squares[i]);
+    return (double)sum;
+}
+
+/* The same, where each number waits for the root before it: its lowest bit is added. */
+static double our_roots_in_turn(int64_t unused)
+{
+    uint64_t root = 0, sum = 0;
+
+    (void)unused;
+    for (int i = 0; i < CALLS; i++) {
+        root = whole_root(squares[i] + (root & 1));
+        sum += root;
+    }
+    return (double)sum;
+}
+
+static double plain_roots_in_turn(int64_t unused)
+{
+    uint64_t root = 0, sum = 0;
+
+    (void)unused;
+    for (int i = 0; i < CALLS; i++) {
+        root = plain_root(squares[i] + (root & 1));
+        sum += root;
+    }
+    return (double)sum;
+}
+
 static double our_rows(int64_t frame)
 {
     double sum = 0;
@@ -314,6 +369,8 @@ static const line lines[] = {
     {"mean anomaly, 5 to 8", 0, outer_bodies, {our_mean_anomalies, NULL, NULL}},
     {"the same by Table 2", LINDENBROOD_TABLE_2, outer_bodies, {our_mean_anomalies_by_table, NULL, NULL}},
     {"sine", 0, nine_bodies, {our_sines, plain_sines, NULL}},
+    {"root near 10^18", 0, nine_bodies, {our_roots, plain_roots, NULL}},
+    {"the same, one waits", 0, nine_bodies, {our_roots_in_turn, plain_roots_in_turn, NULL}},
     {"row in HAE, Julian date", LINDENBROOD_HAE, nine_bodies, {our_rows, plain_rows, NULL}},
     /* The last two ask for the same rows, by minutes both: what they differ by is what a sheet saves. */
     {"row in HAE, sheet's dates", LINDENBROOD_HAE, nine_bodies, {our_single_rows, plain_sheets, NULL}},
@@ -338,6 +395,35 @@ static double time_of(batch made, int64_t parameter)
     return (now() - start) / CALLS;
 }
 
+/* Nanoseconds for one call of a line, on one side. */
+static double time_of_line(int i, int side)
+{
+    bodies = lines[i].bodies;
+    return time_of(lines[i].batches[side], lines[i].parameter);
+}
+
+#ifdef FOR_BESIDE
+/* For bench/beside.c, which loads this file twice, each time with another library, and times the two in turn. */
+void times_prepare(void)
+{
+    make_inputs();
+}
+
+int times_lines(void)
+{
+    return LINES;
+}
+
+const char *times_name(int i)
+{
+    return lines[i].what;
+}
+
+double times_ours(int i)
+{
+    return time_of_line(i, 0);
+}
+#else
 static void print_line(const char *what, const double least[3])
 {
     printf("%-26s %8.1f", what, least[0]);
@@ -360,10 +446,8 @@ int main(void)
     for (int round = 0; round < ROUNDS; round++)
         for (int i = 0; i < LINES; i++)
             for (int side = 0; side < 3; side++)
-                if (lines[i].batches[side] != NULL) {
-                    bodies = lines[i].bodies;
-                    least[i][side] = fmin(least[i][side], time_of(lines[i].batches[side], lines[i].parameter));
-                }
+                if (lines[i].batches[side] != NULL)
+                    least[i][side] = fmin(least[i][side], time_of_line(i, side));
 
     printf("%-26s %8s %11s %8s %11s %8s\n", "nanoseconds", "ours", "plain C", "ratio", "eraPlan94", "ratio");
     for (int i = 0; i < LINES; i++)
@@ -372,3 +456,4 @@ int main(void)
            "their difference", least[SINGLE_ROW][0] - least[SHEET_ROW][0]);
     return 0;
 }
+#endif
