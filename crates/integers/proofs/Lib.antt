@@ -16,6 +16,7 @@
 --     Same         the test whether two numbers are one, and that the machine tells it by their bits
 --     Division     the machine's quotient and rest, toward zero, and the floor from them
 --     Roots        the two faces of the square root are one
+--     Rounds       the rounds of `root`: what holds between two of them, and that there are at most 32
 --     Triples      bounds on the parts of a triple
 --     Blocks       blocks of one size, one behind the other in a buffer
 pub mod Table
@@ -34,5 +35,6 @@ pub mod Twos
 pub mod Same
 pub mod Division
 pub mod Roots
+pub mod Rounds
 pub mod Triples
 pub mod Blocks

@@ -1,13 +1,12 @@
 -- The two faces of the square root are one: `rootOf` computes the greatest number whose square is not above x.
 -- The bits fixed so far give r with r² ≤ x < (r + 2^k)²; each further bit halves the gap, and at k = 0 it is 1.
-use mathlib.Core.Path.{_≡_, refl}
-use mathlib.Core.Bool.{Bool, true, false, cond}
+use mathlib.Core.Path.{_≡_, refl, ap}
+use mathlib.Core.Bool.{cond}
 use Prim.Native.Nat.{ℕ, zero, suc, _+_, _*_, _^_, _≤_, _<_}
 use native.Mathlib.Omega.{arith}
 use native.Mathlib.Nat.{pow-suc}
 use native.Mathlib.Decide.{decLt}
-use lib.Dec.{leb}
-use borrow.Author.Tests.{leb-true, leb-false}
+use borrow.Author.Tests.{le-leb, lt-leb}
 use Rattle.integers.specs.Root.{IsRoot, rootFrom, rootOf}
 use Rattle.integers.proofs.Squares.{square-mono, from-squares}
 
@@ -29,17 +28,29 @@ root-only x r s a b =
 pub double : (k : ℕ) → 2 ^ suc k ≡ 2 ^ k + 2 ^ k
 double k = rw (pow-suc 2 k) (omega arith)
 
-from-is : (k r x : ℕ) → r * r ≤ x → x < (r + 2 ^ k) * (r + 2 ^ k) → IsRoot x (rootFrom k r x)
+-- a step of the definition: the bit 2^k is set, or not
+pub root-set : (k r x : ℕ) → (r + 2 ^ k) * (r + 2 ^ k) ≤ x → rootFrom (suc k) r x ≡ rootFrom k (r + 2 ^ k) x
 unfolding rootFrom
-from-is zero r x h l = root-by x r h l
-from-is (suc k) r x h l = go (leb ((r + 2 ^ k) * (r + 2 ^ k)) x) refl (from-is k (r + 2 ^ k) x) (from-is k r x h)
+root-set k r x h = ap (λ b. rootFrom k (cond b (r + 2 ^ k) r) x) (le-leb ((r + 2 ^ k) * (r + 2 ^ k)) x h)
+
+pub root-unset : (k r x : ℕ) → x < (r + 2 ^ k) * (r + 2 ^ k) → rootFrom (suc k) r x ≡ rootFrom k r x
+unfolding rootFrom
+root-unset k r x h = ap (λ b. rootFrom k (cond b (r + 2 ^ k) r) x) (lt-leb ((r + 2 ^ k) * (r + 2 ^ k)) x h)
+
+pub root-end : (r x : ℕ) → rootFrom 0 r x ≡ r
+unfolding rootFrom
+root-end r x = refl
+
+from-is : (k r x : ℕ) → r * r ≤ x → x < (r + 2 ^ k) * (r + 2 ^ k) → IsRoot x (rootFrom k r x)
+from-is zero r x h l = rw (root-end r x) (root-by x r h l)
+from-is (suc k) r x h l = go (decLt x ((r + 2 ^ k) * (r + 2 ^ k))) (from-is k (r + 2 ^ k) x) (from-is k r x h)
   where
     wide : x < (r + 2 ^ k + 2 ^ k) * (r + 2 ^ k + 2 ^ k)
     wide = let m = rw (double k) at l in omega arith
 
-    go : (b : Bool) → leb ((r + 2 ^ k) * (r + 2 ^ k)) x ≡ b → ((r + 2 ^ k) * (r + 2 ^ k) ≤ x → x < (r + 2 ^ k + 2 ^ k) * (r + 2 ^ k + 2 ^ k) → IsRoot x (rootFrom k (r + 2 ^ k) x)) → (x < (r + 2 ^ k) * (r + 2 ^ k) → IsRoot x (rootFrom k r x)) → IsRoot x (rootFrom k (cond b (r + 2 ^ k) r) x)
-    go true e set unset = set (leb-true ((r + 2 ^ k) * (r + 2 ^ k)) x e) wide
-    go false e set unset = unset (leb-false ((r + 2 ^ k) * (r + 2 ^ k)) x e)
+    go : Dec (x < (r + 2 ^ k) * (r + 2 ^ k)) → ((r + 2 ^ k) * (r + 2 ^ k) ≤ x → x < (r + 2 ^ k + 2 ^ k) * (r + 2 ^ k + 2 ^ k) → IsRoot x (rootFrom k (r + 2 ^ k) x)) → (x < (r + 2 ^ k) * (r + 2 ^ k) → IsRoot x (rootFrom k r x)) → IsRoot x (rootFrom (suc k) r x)
+    go (yes d) set unset = rw (root-unset k r x d) (unset d)
+    go (no d) set unset = rw (root-set k r x (omega arith)) (set (omega arith) wide)
 
 pub root-is : (x : ℕ) → x < 2 ^ 64 → IsRoot x (rootOf x)
 unfolding rootOf

@@ -110,89 +110,31 @@ pub fn end_turn(z: i64) -> i64
     floor_div(z, 1_000_000_000)
 }
 
-// A guess of a root, brought into the range of the roots of 64-bit numbers.
-fn capped(g: u64) -> u64
-    ensures { λ r. ⌜ (1 ≤ r) × (r ≤ 4294967295) ⌝ }
-{
-    if g < 1 {
-        1
-    } else if 4_294_967_295 < g {
-        4_294_967_295
-    } else {
-        g
-    }
-}
-
-// One step of Newton's iteration for the root of x. Only speed depends on it.
-fn better(x: u64, g: u64) -> u64
-    requires { ⌜ (1 ≤ g) × (g ≤ 4294967295) ⌝ }
-    ensures { λ r. ⌜ (1 ≤ r) × (r ≤ 4294967295) ⌝ }
-{
-    capped(g / 2 + x / g / 2)
-}
-
-// A first guess for x from 15.6 10^15 on, by a chord in each range of a factor four: within 5 parts in 100.
-fn chord(x: u64) -> u64
-    ensures { λ r. ⌜ (1 ≤ r) × (r ≤ 4294967295) ⌝ }
-{
-    if x < 62_500_000_000_000_000 {
-        capped(x / 375_000_000 + 85_750_000)
-    } else if x < 250_000_000_000_000_000 {
-        capped(x / 750_000_000 + 171_500_000)
-    } else if x < 1_000_000_000_000_000_000 {
-        capped(x / 1_500_000_000 + 343_000_000)
-    } else if x < 4_000_000_000_000_000_000 {
-        capped(x / 3_000_000_000 + 686_000_000)
-    } else {
-        capped(x / 6_000_000_000 + 1_372_000_000)
-    }
-}
-
-// A first guess for the rest, by steps from a rough start.
-fn rough(x: u64) -> u64
-    ensures { λ r. ⌜ (1 ≤ r) × (r ≤ 4294967295) ⌝ }
-{
-    if 1_000_000_000_000 <= x {
-        better(x, better(x, 20_000_000))
-    } else if 100_000_000 <= x {
-        better(x, better(x, better(x, 100_000)))
-    } else {
-        better(x, better(x, better(x, better(x, 1000))))
-    }
-}
-
-fn guess(x: u64) -> u64
-    ensures { λ r. ⌜ (1 ≤ r) × (r ≤ 4294967295) ⌝ }
-{
-    if x < 15_625_000_000_000_000 {
-        rough(x)
-    } else {
-        chord(x)
-    }
-}
-
-// The greatest whole number whose square is not above x, from a guess near it. Whatever the guess, the two loops make it right.
-pub fn root_near(x: u64, near: u64) -> u64
-    ensures { λ r. ⌜ IsRoot x r ⌝ }
-    ensures { λ r. ⌜ r ≡ rootOf x ⌝ }
-{
-    let mut r = better(x, capped(near));
-    while x < r * r {
-        r = r - 1;
-    }
-    while r < 4_294_967_295 {
-        if x < (r + 1) * (r + 1) {
-            return r;
-        }
-        r = r + 1;
-    }
-    r
-}
-
-// The greatest whole number whose square is not above x.
+// The greatest whole number whose square is not above x (02, Item 2): a bit of it, and two bits of x, at a time from the highest, with no
+// product and no division. `bit` is the square of the bit that is tried. It is quartered from 2^62 down to 0, so there are 32 rounds at
+// most; the first loop passes over those that set no bit. With r the root so far and b the bit, `rest` is x - r², `held` is 2 r b, and
+// `taken` is (r + b)² - r². A round has no jump: both outcomes are worked out and one is chosen. `taken - half` is `half + bit`, written
+// so since the compiler then chooses between two numbers at once; with `half + bit` a root takes a seventh longer.
 pub fn root(x: u64) -> u64
     ensures { λ r. ⌜ IsRoot x r ⌝ }
     ensures { λ r. ⌜ r ≡ rootOf x ⌝ }
 {
-    root_near(x, better(x, better(x, guess(x))))
+    let mut bit: u64 = 0x4000_0000_0000_0000;
+    while x < bit {
+        bit = bit >> 2;
+    }
+    let mut rest = x;
+    let mut held: u64 = 0;
+    while 0 < bit {
+        let taken = held + bit;
+        let half = held >> 1;
+        if rest < taken {
+            held = half;
+        } else {
+            rest = rest - taken;
+            held = taken - half;
+        }
+        bit = bit >> 2;
+    }
+    held
 }

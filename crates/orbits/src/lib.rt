@@ -134,25 +134,12 @@ fn argument_of(elements: Elements) -> Angle
     perihelion.difference(node).to_angle()
 }
 
-// A guess of the minor half-axis by two terms of a series: within 15 parts in a million up to the eccentricity of Pluto. Only
-// speed depends on it.
-fn minor_guess(e: u64) -> u64
-    requires { ⌜ e ≤ 90000000 ⌝ }
-{
-    let w = e * e / 10_000_000;
-    1_000_000_000 - w / 2 - w * w / 8_000_000_000
-}
-
-// Step 4: the minor half-axis of an ellipse of half-axis 1. Long ellipses are far from the guess and take the general root.
+// Step 4: the minor half-axis of an ellipse of half-axis 1.
 fn minor_axis(e: u64) -> i64
     requires { ⌜ e ≤ 90000000 ⌝ }
     ensures { λ r. ⌜ r ≡ minorOf (pos e) ⌝ }
 {
-    let x = 1_000_000_000_000_000_000 - 100 * e * e;
-    if e < 30_000_000 {
-        return integers::root_near(x, minor_guess(e)) as i64;
-    }
-    integers::root(x) as i64
+    integers::root(1_000_000_000_000_000_000 - 100 * e * e) as i64
 }
 
 // Step 4: toward the perihelion.
@@ -180,9 +167,10 @@ fn in_plane(sines: &[u32; 901], a: i64, e: u64, anomaly: Angle) -> InPlane
     requires { ⌜ AxisFits a (pos e) ⌝ }
     ensures { λ r. ⌜ r ≡ inPlane a (pos e) (millionths anomaly) ⌝ }
 {
+    let f = minor_axis(e);
     InPlane {
         x: plane_x(a, e as i64, angles::cosine(sines, anomaly)),
-        y: plane_y(a, minor_axis(e), angles::sine(sines, anomaly)),
+        y: plane_y(a, f, angles::sine(sines, anomaly)),
     }
 }
 
@@ -279,13 +267,13 @@ pub fn place_of(sines: &[u32; 901], elements: Elements, mean: Angle) -> [i64; 3]
     let inclination = elements.inclination;
     let size = e.hundred_millionths() as u64;
     let anomaly = kepler::eccentric(sines, size, mean);
+    let p = in_plane(sines, a.hundred_millionths(), size, anomaly);
     let k = coefficients_of(
         sines,
         argument_of(elements),
         node.to_angle(),
         inclination.to_angle(),
     );
-    let p = in_plane(sines, a.hundred_millionths(), size, anomaly);
     ecliptic(k, p.x, p.y)
 }
 

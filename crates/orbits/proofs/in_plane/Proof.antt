@@ -31,25 +31,25 @@ module _ (s : tie.Start) where
   e-is : toZ w64 (s .args .e) ≡ pos (s .args .e)
   e-is = of-nat (s .args .e) (omega (arith, small))
 
+minor-axis-requires : tie.Need-minor-axis-requires
+minor-axis-requires c κs = small c
+
+minor-is : (c : tie.After-minor-axis) → read (c .minor-axis .result) ≡ minorOf (pos (c .before .args .e))
+minor-is c = back-ok (c .minor-axis .result) (c .minor-axis .ok) ∙ c .minor-axis .ensures
+
 cast-plane-x : tie.Need-cast-plane-x
-cast-plane-x c = pos-fits (c .args .e) (omega (arith, small c))
+cast-plane-x c = pos-fits (c .before .args .e) (omega (arith, small (c .before)))
 
 cosine-requires : tie.Need-cosine-requires
 cosine-requires c κs = search needs
 
-cosine-is : (c : tie.After-cosine) → read (c .cosine .result) ≡ cosineOf (millionths (c .before .args .anomaly))
+cosine-is : (c : tie.After-cosine) → read (c .cosine .result) ≡ cosineOf (millionths (c .before .before .args .anomaly))
 cosine-is c = back-ok (c .cosine .result) (c .cosine .ok) ∙ c .cosine .ensures
 
 plane-x-requires : tie.Need-plane-x-requires
 plane-x-requires c κs =
-    let s = c .before in
+    let s = c .before .before in
     (subst₂ AxisFits (sym (a-is s)) (sym (e-is s)) (s .pre .1), subst (Within 1000000000) (sym (cosine-is c)) (cosine-small (millionths (s .args .anomaly))))
-
-minor-axis-requires : tie.Need-minor-axis-requires
-minor-axis-requires c κs = small (c .before .before)
-
-minor-is : (c : tie.After-minor-axis) → read (c .minor-axis .result) ≡ minorOf (pos (c .before .before .before .args .e))
-minor-is c = back-ok (c .minor-axis .result) (c .minor-axis .ok) ∙ c .minor-axis .ensures
 
 sine-requires : tie.Need-sine-requires
 sine-requires c κs = search needs
@@ -63,7 +63,7 @@ plane-y-requires c κs =
     let axis : Within 4500000000 (s .args .a) = record { within = s .pre .1 .axis } in (
       subst (Within 4500000000) (sym (a-is s)) axis,
       (
-        subst (Within 1000000000) (sym (minor-is (c .before))) (minor-small (pos (s .args .e)) (s .pre .1 .elliptic)),
+        subst (Within 1000000000) (sym (minor-is (c .before .before .before))) (minor-small (pos (s .args .e)) (s .pre .1 .elliptic)),
         subst (Within 1000000000) (sym (sine-is c)) (sine-small (millionths (s .args .anomaly))),
       ),
     )
@@ -75,9 +75,9 @@ returns : tie.Need-returns
 unfolding planeX planeY
 returns c =
     let d = c .before in
-    let m = d .before in
-    let x = m .before in
-    let s = x .before .before in
+    let x = d .before in
+    let m = x .before .before in
+    let s = m .before in
     λ i.
     two
     ((back-ok (x .plane-x .result) (x .plane-x .ok) ∙ x .plane-x .ensures ∙ (λ j. floorDiv (a-is s j *ℤ (cosine-is (x .before) j -ℤ pos 10 *ℤ e-is s j)) 10000000000)) i)
@@ -87,10 +87,10 @@ pub in-plane-spec : {M : Type 1} → statement M
 in-plane-spec =
     tie.close
     (tie.spec
+    minor-axis-requires
     cast-plane-x
     cosine-requires
     plane-x-requires
-    minor-axis-requires
     sine-requires
     plane-y-requires
     returns)

@@ -58,19 +58,8 @@ eccentric-requires c κs = (start c .pre .0, size-small c)
 anomaly-is : (c : tie.After-eccentric) → millionths (c .eccentric .result) ≡ E (start (c .before))
 anomaly-is c = c .eccentric .ensures .0 ∙ (λ i. eccentric (size-is (c .before) i) (millionths (start (c .before) .args .mean)))
 
-argument-of-requires : tie.Need-argument-of-requires
-argument-of-requires c κs = start (c .before) .pre .1
-
-coefficients-of-requires : tie.Need-coefficients-of-requires
-coefficients-of-requires c κs = start (c .before .before .before .before) .pre .0
-
-coefficients-are : (c : tie.After-coefficients-of) → c .coefficients-of .result ≡ coefficientsOf (argumentOf (el (start (c .before .before .before .before .before)))) (nodeOf (el (start (c .before .before .before .before .before)))) (inclinationOf (el (start (c .before .before .before .before .before))))
-coefficients-are c =
-    c .coefficients-of .ensures
-    ∙ (λ i. coefficientsOf (c .before .before .before .argument-of .ensures i) (c .before .before .to-angle .ensures i) (c .before .to-angle2 .ensures i))
-
 abbrev first : tie.After-hundred-millionths2 → tie.After-hundred-millionths
-first c = c .before .before .before .before .before .before
+first c = c .before .before
 
 a-is : (c : tie.After-hundred-millionths2) → read (c .hundred-millionths2 .result) ≡ a (start (first c))
 a-is c = back-ok (c .hundred-millionths2 .result) (c .hundred-millionths2 .ok) ∙ c .hundred-millionths2 .ensures
@@ -82,7 +71,7 @@ in-plane-requires c κs =
 plane-is : (c : tie.After-in-plane) → c .in-plane .result ≡ inPlane (a (start (first (c .before)))) (e (start (first (c .before)))) (E (start (first (c .before))))
 plane-is c =
     c .in-plane .ensures
-    ∙ (λ i. inPlane (a-is (c .before) i) (size-is (first (c .before)) i) (anomaly-is (c .before .before .before .before .before .before) i))
+    ∙ (λ i. inPlane (a-is (c .before) i) (size-is (first (c .before)) i) (anomaly-is (c .before .before) i))
 
 module _ (c : tie.After-in-plane) where
   abbrev s : tie.Start
@@ -94,10 +83,24 @@ module _ (c : tie.After-in-plane) where
   y-small : Within 450000000 (c .in-plane .result .y)
   y-small = subst (λ (p : InPlane). Within 450000000 (p .y)) (sym (plane-is c)) (plane-y-small (a s) (e s) (E s) (fit s))
 
+argument-of-requires : tie.Need-argument-of-requires
+argument-of-requires c κs = s c .pre .1
+
+coefficients-of-requires : tie.Need-coefficients-of-requires
+coefficients-of-requires c κs = s (c .before .before .before) .pre .0
+
+abbrev plane : tie.After-coefficients-of → tie.After-in-plane
+plane c = c .before .before .before .before
+
+coefficients-are : (c : tie.After-coefficients-of) → c .coefficients-of .result ≡ coefficientsOf (argumentOf (el (s (plane c)))) (nodeOf (el (s (plane c)))) (inclinationOf (el (s (plane c))))
+coefficients-are c =
+    c .coefficients-of .ensures
+    ∙ (λ i. coefficientsOf (c .before .before .before .argument-of .ensures i) (c .before .before .to-angle .ensures i) (c .before .to-angle2 .ensures i))
+
 ecliptic-requires : tie.Need-ecliptic-requires
 ecliptic-requires c κs =
-    let p = c .before .before in
-    let k = p .before .before in (
+    let k = c .before .before in
+    let p = plane k in (
       subst Bounded (sym (coefficients-are k)) (bounded (argumentOf (el (s p))) (nodeOf (el (s p))) (inclinationOf (el (s p)))),
       (w-read (x-small p) tt, w-read (y-small p) tt),
     )
@@ -105,8 +108,8 @@ ecliptic-requires c κs =
 returns : tie.Need-returns
 unfolding placeOf
 returns c =
-    let p = c .before .before .before in
-    let k = p .before .before in
+    let k = c .before .before .before in
+    let p = plane k in
     c .ecliptic .ensures
     ∙ (λ i. eclipticOf (coefficients-are k i) ((known (x-small p) tt .is ∙ ap (λ (q : InPlane). q .x) (plane-is p)) i) ((known (y-small p) tt .is ∙ ap (λ (q : InPlane). q .y) (plane-is p)) i))
 
@@ -117,11 +120,11 @@ place-of-spec =
     (λ c κs. search needs)
     cast-size
     eccentric-requires
+    (λ c κs. search needs)
+    in-plane-requires
     argument-of-requires
     (λ c κs. search needs)
     (λ c κs. search needs)
     coefficients-of-requires
-    (λ c κs. search needs)
-    in-plane-requires
     ecliptic-requires
     returns)
