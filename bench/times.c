@@ -5,6 +5,7 @@
  * machine does meanwhile favours neither side. */
 #define _POSIX_C_SOURCE 199309L /* clock_gettime */
 #include <math.h>
+#include <stdbool.h>
 #include <stdint.h>
 #include <stdio.h>
 #include <time.h>
@@ -211,55 +212,43 @@ static double our_mean_anomalies_by_table(int64_t table)
     return (double)sum;
 }
 
-static double our_roots(int64_t unused)
-{
-    uint64_t sum = 0;
-
-    (void)unused;
-    for (int i = 0; i < CALLS; i++)
-        sum += whole_root(squares[i]);
-    return (double)sum;
-}
-
 /* The root as a C host writes it. It is one too large where the double nearest to x is a square and x is below it. */
 static uint64_t plain_root(uint64_t x)
 {
     return (uint64_t)sqrt((double)x);
 }
 
-static double plain_roots(int64_t unused)
+typedef uint64_t (*whole_root_of)(uint64_t x);
+
+static inline double roots(whole_root_of root)
 {
     uint64_t sum = 0;
 
-    (void)unused;
     for (int i = 0; i < CALLS; i++)
-        sum += plain_root(squares[i]);
+        sum += root(squares[i]);
     return (double)sum;
 }
 
 /* The same, where each number waits for the root before it: its lowest bit is added. */
-static double our_roots_in_turn(int64_t unused)
+static inline double roots_in_turn(whole_root_of root)
 {
-    uint64_t root = 0, sum = 0;
+    uint64_t last = 0, sum = 0;
 
-    (void)unused;
     for (int i = 0; i < CALLS; i++) {
-        root = whole_root(squares[i] + (root & 1));
-        sum += root;
+        last = root(squares[i] + (last & 1));
+        sum += last;
     }
     return (double)sum;
 }
 
-static double plain_roots_in_turn(int64_t unused)
+static double our_roots(int64_t waits)
 {
-    uint64_t root = 0, sum = 0;
+    return waits ? roots_in_turn(whole_root) : roots(whole_root);
+}
 
-    (void)unused;
-    for (int i = 0; i < CALLS; i++) {
-        root = plain_root(squares[i] + (root & 1));
-        sum += root;
-    }
-    return (double)sum;
+static double plain_roots(int64_t waits)
+{
+    return waits ? roots_in_turn(plain_root) : roots(plain_root);
 }
 
 static double our_rows(int64_t frame)
@@ -347,7 +336,7 @@ static double plain_sheets(int64_t frame)
 
 typedef struct {
     const char *what;
-    int64_t parameter;     /* frame, eccentricity in 10^-8, or table */
+    int64_t parameter;     /* frame, eccentricity in 10^-8, table, or whether a number waits for the one before it */
     const int64_t *bodies; /* who is asked for */
     batch batches[3];      /* ours, the plain program's, eraPlan94's; NULL where there is none */
 } line;
@@ -369,8 +358,8 @@ static const line lines[] = {
     {"mean anomaly, 5 to 8", 0, outer_bodies, {our_mean_anomalies, NULL, NULL}},
     {"the same by Table 2", LINDENBROOD_TABLE_2, outer_bodies, {our_mean_anomalies_by_table, NULL, NULL}},
     {"sine", 0, nine_bodies, {our_sines, plain_sines, NULL}},
-    {"root near 10^18", 0, nine_bodies, {our_roots, plain_roots, NULL}},
-    {"the same, one waits", 0, nine_bodies, {our_roots_in_turn, plain_roots_in_turn, NULL}},
+    {"root near 10^18", false, nine_bodies, {our_roots, plain_roots, NULL}},
+    {"the same, one waits", true, nine_bodies, {our_roots, plain_roots, NULL}},
     {"row in HAE, Julian date", LINDENBROOD_HAE, nine_bodies, {our_rows, plain_rows, NULL}},
     /* The last two ask for the same rows, by minutes both: what they differ by is what a sheet saves. */
     {"row in HAE, sheet's dates", LINDENBROOD_HAE, nine_bodies, {our_single_rows, plain_sheets, NULL}},
