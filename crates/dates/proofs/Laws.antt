@@ -5,13 +5,14 @@ use mathlib.Core.Logic.{_⊎_, inl, inr}
 use mathlib.Core.Path.{_≡_, refl, sym, ap, subst, _∙_}
 use Prim.Native.Nat.{ℕ, _*_, _≤_}
 use native.Mathlib.Omega.{arith}
+use lib.Dec.{T}
 use lib.IntN.{ℤ, pos, negsuc, _+ℤ_, _*ℤ_, +ℤ-idr}
 use lib.Signed.{ltZ, _≤ℤ_, _<ℤ_}
 use Rattle.integers.specs.Range.{Within, FromTo}
 use Rattle.integers.proofs.Difference.{zarith, d-add, d-abs}
 use Rattle.integers.proofs.Ring.{pos-mono, neg-anti}
 use Rattle.integers.proofs.Floor.{floor-mono}
-use Rattle.integers.proofs.Ranges.{is-inside, is-outside, is-below, is-above, inside-of}
+use Rattle.integers.proofs.Ranges.{of-test, is-inside, is-outside, is-below, is-above, inside-of, range-within}
 use Rattle.integers.proofs.Number.{w-mul, w-floor<}
 use Rattle.refusals.specs.declared.Refusal.{Refusal}
 use Rattle.refusals.specs.declared.Refusal.the-variants.{NotFinite as DateNotFinite, OutsideInterval}
@@ -20,7 +21,7 @@ use Rattle.dates.specs.declared.Minute.{Minute}
 use Rattle.dates.specs.declared.Minute.the-variants.{At, NotFinite}
 use Rattle.dates.specs.declared.Moment.the-variants.{Accepted, Refused}
 use Rattle.dates.specs.Minute.{driftOf}
-use Rattle.dates.specs.Moment.{Covers, covers, testedIf, tested, momentAt}
+use Rattle.dates.specs.Moment.{Covers, covers, testedIf, tested, momentAt, isStep}
 use Rattle.dates.specs.Reach.{clamped, held, Held, no-minute, near-minute, InReach}
 
 -- ---- the test of a minute, and what its outcome tells
@@ -44,6 +45,13 @@ module _ (interval : Interval) (m : ℤ) where
           subst (Covers interval) g (inside-of (interval .first) (interval .last) m f)
       go false f e = let z : _≡_ {A = ℕ} 0 1 = cc in absurd (omega arith)
 
+  tested-is : (a : ℤ) → tested interval m ≡ Accepted a → m ≡ a
+  tested-is a e = go (covers interval m) (sym (by-test (covers interval m) refl) ∙ e)
+    where
+      go : (b : Bool) → testedIf b m ≡ Accepted a → m ≡ a
+      go true e = cc
+      go false e = let z : _≡_ {A = ℕ} 0 1 = cc in absurd (omega arith)
+
   tested-refused : (r : Refusal) → tested interval m ≡ Refused r → r ≡ OutsideInterval
   tested-refused r e = go (covers interval m) (sym (by-test (covers interval m) refl) ∙ e)
     where
@@ -51,7 +59,12 @@ module _ (interval : Interval) (m : ℤ) where
       go true e = let z : _≡_ {A = ℕ} 0 1 = cc in absurd (omega arith)
       go false e = cc
 
--- ---- a minute and an offset
+-- ---- a minute and an offset: `a` is their sum
+pub record IsSum (minute : Minute) (offset a : ℤ) : Type 0 where
+  pub start : ℤ
+  pub at : minute ≡ At start
+  pub sum : start +ℤ offset ≡ a
+
 module _ (interval : Interval) where
   pub not-finite : (offset : ℤ) → momentAt interval NotFinite offset ≡ Refused DateNotFinite
   unfolding momentAt
@@ -73,10 +86,23 @@ module _ (interval : Interval) where
       absurd (omega arith)
   accepted-inside (At m) offset a h = tested-inside interval (m +ℤ offset) a (sym (at-sum m offset) ∙ h)
 
+  -- and is the sum of a minute that there is and the offset
+  pub accepted-is : (minute : Minute) (offset a : ℤ) → momentAt interval minute offset ≡ Accepted a → IsSum minute offset a
+  accepted-is NotFinite offset a h =
+      let e = sym (not-finite offset) ∙ h in
+      let z : _≡_ {A = ℕ} 0 1 = cc in
+      absurd (omega arith)
+  accepted-is (At m) offset a h = record { start = m; at = refl; sum = tested-is interval (m +ℤ offset) a (sym (at-sum m offset) ∙ h) }
+
   -- there is no refusal but 1 and 2
   pub one-or-two : (minute : Minute) (offset : ℤ) (r : Refusal) → momentAt interval minute offset ≡ Refused r → (r ≡ DateNotFinite) ⊎ (r ≡ OutsideInterval)
   one-or-two NotFinite offset r h = let e = sym (not-finite offset) ∙ h in inl cc
   one-or-two (At m) offset r h = inr (tested-refused interval (m +ℤ offset) r (sym (at-sum m offset) ∙ h))
+
+-- ---- a step between dates
+pub step-small : (step : ℤ) → T (isStep step) → Within 1000000 step
+unfolding isStep
+step-small step t = range-within (pos 1) (pos 1000000) step 1000000 (of-test (pos 1) (pos 1000000) step t) (omega arith) (omega arith)
 
 -- ---- a minute as it is carried
 clamp-within : (z : ℤ) → Within 100000000000000 (clamped z)

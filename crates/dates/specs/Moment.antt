@@ -31,6 +31,10 @@ unfoldable pub momentAt : Interval → Minute → ℤ → Moment
 momentAt interval NotFinite offset = Refused DateNotFinite
 momentAt interval (At m) offset = tested interval (m +ℤ offset)
 
+-- refusal 10: a step between dates that is "not 1 to 1,000,000" is refused
+unfoldable pub isStep : ℤ → Bool
+isStep step = isFromTo (pos 1) (pos 1000000) step
+
 -- document 01's number of a moment, 0 where it is accepted, and its minute, zero where it is not
 abbrev pub momentStatus : Moment → ℤ
 momentStatus (Accepted m) = pos 0

@@ -1,11 +1,12 @@
-// Dates: a Julian date or whole minutes, the exact minute that a date comes to, its test against an interval, and what a rate a
-// century comes to in so many minutes. The minute is one step and the test another, so that a refusal can stand between them.
+// Dates: a Julian date or whole minutes, the exact minute that a date comes to, its test against an interval, the test of a step
+// between dates, and what a rate a century comes to in so many minutes. The minute comes first and the test after it, so that
+// a refusal can stand between them.
 ghost use mathlib.Core.Path.{_≡_};
 ghost use Prim.Native.Nat.{_^_};
 ghost use lib.Ieee.{binary64, ofFields};
 ghost use Rattle.integers.specs.Floor.{rounded};
 ghost use Rattle.dates.specs.Minute.{minuteOfJulian, minuteOf, driftOf};
-ghost use Rattle.dates.specs.Moment.{momentAt};
+ghost use Rattle.dates.specs.Moment.{isStep, momentAt};
 ghost use Rattle.dates.specs.Reach.{clamped, held, Held, InReach, NearFields, RoundFits, DriftFits};
 use refusals::Refusal;
 
@@ -118,6 +119,13 @@ pub fn moment_at(interval: Interval, minute: Minute, offset: i64) -> Moment
         return Moment::Refused(Refusal::OutsideInterval);
     }
     Moment::Accepted(m)
+}
+
+// Whether dates may follow each other by this many minutes, in a sheet or a search: refusal 10's test of a step.
+pub fn is_step(step: i64) -> bool
+    ensures { λ r. ⌜ r ≡ isStep step ⌝ }
+{
+    integers::is_from_to(1, 1_000_000, step)
 }
 
 // floor(rate m / 52,596,000): what a rate a century comes to in m minutes. The product may be past 64 bits.

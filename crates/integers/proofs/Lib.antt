@@ -19,6 +19,7 @@
 --     Rounds       the rounds of `root`: what holds between two of them, and that there are at most 32
 --     Triples      bounds on the parts of a triple
 --     Blocks       blocks of one size, one behind the other in a buffer
+--     First        the first of numbered things that a test picks out
 pub mod Table
 pub mod Difference
 pub mod Ring
@@ -38,3 +39,4 @@ pub mod Roots
 pub mod Rounds
 pub mod Triples
 pub mod Blocks
+pub mod First

@@ -1,15 +1,18 @@
--- The test whether two numbers are one, and that the machine tells it by their bits.
+-- The test whether two numbers are one, and that the machine tells it by their bits; the test whether their signs are opposite.
 -- By the cases of ℤ; two numbers that fit have the same bits where they are one (Cast).
-use mathlib.Core.Bool.{Bool, true, false}
-use mathlib.Core.Path.{_≡_, refl, ap, sym, subst⁻¹}
-use Prim.Native.Nat.{ℕ, _^_}
+use mathlib.Core.Bool.{Bool, true, false, _&&_, _||_}
+use mathlib.Core.Path.{_≡_, refl, ap, sym, subst⁻¹, _∙_}
+use Prim.Native.Nat.{ℕ, zero, suc, _*_, _^_, _≤_}
+use native.Mathlib.Omega.{arith}
 use lib.Dec.{T, ltb, ltb→lt, eqb, eqb→eq}
-use lib.IntN.{ℤ, pos, negsuc, natAbs}
+use lib.IntN.{ℤ, pos, negsuc, natAbs, _*ℤ_}
+use lib.Signed.{ltZ, _≤ℤ_, _<ℤ_, clashℤ}
 use mir.Syntax.{w64}
 use mir.Val.{SFits, ofZ}
 use borrow.Author.Tests.{eq-eqb, ne-eqb}
-use Rattle.integers.specs.Sign.{same}
-use Rattle.integers.proofs.Difference.{zarith}
+use Rattle.integers.specs.Sign.{same, opposite}
+use Rattle.integers.proofs.Difference.{zarith, d-mul}
+use Rattle.integers.proofs.Table.{yes, no}
 use Rattle.integers.proofs.Cast.{same-bits, pos-fits}
 
 pub same-yes : (a b : ℤ) → a ≡ b → same a b ≡ true
@@ -59,3 +62,35 @@ bits-tell a b f g =
   where
     told : ofZ w64 a ≡ ofZ w64 b → T (eqb (ofZ w64 a) (ofZ w64 b))
     told e = subst⁻¹ T (eq-eqb (ofZ w64 a) (ofZ w64 b) e) tt
+
+-- ---- opposite signs
+is-less : (a b : ℤ) → a <ℤ b → ltZ a b ≡ true
+is-less a b h = yes (ltZ a b) (h .lt)
+
+no-less : (a b : ℤ) → b ≤ℤ a → ltZ a b ≡ false
+no-less a b h = no (ltZ a b) (λ t. clashℤ (record { lt = t }) h)
+
+at-least-1 : (a b : ℕ) → 1 ≤ suc a * suc b
+at-least-1 a b = omega arith
+
+-- by the outcomes of the four tests, and of that of the product
+by-signs : (a b : ℤ) {p q r s x : Bool} → ltZ a (pos 0) ≡ p → ltZ (pos 0) b ≡ q → ltZ (pos 0) a ≡ r → ltZ b (pos 0) ≡ s → opposite a b ≡ x → (p && q) || (r && s) ≡ x
+    → (ltZ a (pos 0) && ltZ (pos 0) b) || (ltZ (pos 0) a && ltZ b (pos 0)) ≡ opposite a b
+by-signs a b e f g h k t = (λ i. (e i && f i) || (g i && h i)) ∙ t ∙ sym k
+
+pub signs-tell : (a b : ℤ) → (ltZ a (pos 0) && ltZ (pos 0) b) || (ltZ (pos 0) a && ltZ b (pos 0)) ≡ opposite a b
+signs-tell (pos zero) b = sym (no-less (pos zero *ℤ b) (pos 0) (omega (zarith, d-mul (pos zero) b)))
+signs-tell (pos (suc a)) (pos b) =
+    by-signs (pos (suc a)) (pos b) (no-less (pos (suc a)) (pos 0) (omega zarith)) refl (is-less (pos 0) (pos (suc a)) (omega zarith)) (no-less (pos b) (pos 0) (omega zarith))
+    (no-less (pos (suc a) *ℤ pos b) (pos 0) (omega (zarith, d-mul (pos (suc a)) (pos b)))) refl
+signs-tell (pos (suc a)) (negsuc b) =
+    by-signs (pos (suc a)) (negsuc b) (no-less (pos (suc a)) (pos 0) (omega zarith)) refl (is-less (pos 0) (pos (suc a)) (omega zarith)) refl
+    (is-less (pos (suc a) *ℤ negsuc b) (pos 0) (omega (zarith, d-mul (pos (suc a)) (negsuc b), at-least-1 a b))) refl
+signs-tell (negsuc a) (pos zero) = sym (no-less (negsuc a *ℤ pos zero) (pos 0) (omega (zarith, d-mul (negsuc a) (pos zero))))
+signs-tell (negsuc a) (pos (suc b)) =
+    by-signs (negsuc a) (pos (suc b)) refl (is-less (pos 0) (pos (suc b)) (omega zarith)) refl (no-less (pos (suc b)) (pos 0) (omega zarith))
+    (is-less (negsuc a *ℤ pos (suc b)) (pos 0) (omega (zarith, d-mul (negsuc a) (pos (suc b)), at-least-1 a b))) refl
+signs-tell (negsuc a) (negsuc b) = sym (no-less (negsuc a *ℤ negsuc b) (pos 0) (omega (zarith, d-mul (negsuc a) (negsuc b))))
+
+pub zero-opposite : (a : ℤ) → opposite a (pos 0) ≡ false
+zero-opposite a = no-less (a *ℤ pos 0) (pos 0) (omega (zarith, d-mul a (pos 0)))

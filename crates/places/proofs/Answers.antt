@@ -1,30 +1,33 @@
 -- What is known of an answer: a place was found of a table, a body, a frame and a minute that there are; a refusal is 1, 11, 2, 3 or 4; and every
--- part of a place becomes a double exactly. The answer goes by the date's moment and two tests, so each law goes by their outcomes.
+-- part of a place becomes a double exactly; a place in HAE is the orbit's. The answer goes by the date's moment and two tests, so each law goes by their outcomes.
 use mathlib.Core.Bool.{Bool, true, false}
 use mathlib.Core.Logic.{_⊎_, inl, inr}
-use mathlib.Core.Path.{_≡_, refl, subst, sym}
+use mathlib.Core.Path.{_≡_, refl, subst, sym, ap, _∙_}
 use Prim.Native.Nat.{ℕ}
 use native.Mathlib.Omega.{arith}
-use lib.IntN.{ℤ, pos}
+use lib.IntN.{ℤ, pos, +ℤ-idr}
 use lib.Dec.{T}
 use Rattle.integers.specs.Range.{FromTo, isFromTo}
-use Rattle.integers.proofs.Ranges.{of-test, inside-of}
+use Rattle.integers.proofs.Ranges.{of-test, is-inside, inside-of}
 use Rattle.integers.proofs.Number.{w-more}
 use Rattle.refusals.specs.declared.Refusal.{Refusal}
 use Rattle.refusals.specs.declared.Refusal.the-variants.{NotFinite, OutsideInterval, NoSuchBody, NoSuchFrame, NoSuchTable}
 use Rattle.refusals.specs.Number.{numberOf}
 use Rattle.dates.specs.declared.Date.{Date}
+use Rattle.dates.specs.declared.Date.the-variants.{Minutes}
 use Rattle.dates.specs.declared.Moment.{Moment}
 use Rattle.dates.specs.declared.Moment.the-variants.{Accepted, Refused as RefusedDate}
-use Rattle.tables.specs.Table.{KnownTable, Body, isBody, OnTable, momentAfter}
-use Rattle.tables.proofs.Laws.{after-inside, after-refused}
+use Rattle.dates.specs.Moment.{tested}
+use Rattle.dates.proofs.Laws.{inside}
+use Rattle.tables.specs.Table.{KnownTable, Body, isBody, OnTable, intervalOf, momentAfter}
+use Rattle.tables.proofs.Laws.{after-inside, after-refused, after-tested}
 use Rattle.frames.specs.declared.Coordinates.{Coordinates}
 use Rattle.frames.specs.Frame.{KnownFrame, isFrame, turnedBetween}
 use Rattle.frames.specs.Answer.{asCoordinates}
 use Rattle.vectors.proofs.Turns.{part-no-longer}
 use Rattle.projector.specs.Au.{CountsExact}
 use Rattle.places.specs.declared.PlaceAnswer.the-variants.{Found, Refused}
-use Rattle.places.specs.Answer.{haeAt, earthAt, placeIf, placeOn, placeAfter}
+use Rattle.places.specs.Answer.{haeAt, earthAt, placeIf, placeOn, placeAfter, placeAnswer}
 use Rattle.places.proofs.Earth.{place-long}
 
 -- what is so of a place that was found
@@ -93,3 +96,10 @@ module _ (date : Date) (table offset body frame : ℤ) where
         y-exact = w-more (part-no-longer v 1 (omega arith) l) tt;
         z-exact = w-more (part-no-longer v 2 (omega arith) l) tt;
       })
+
+-- ---- in HAE a place is that of the orbit itself, on every minute of a table's interval
+pub hae-place : (table body m : ℤ) → OnTable table m → Body body → placeAnswer (Minutes m) table body (pos 1) ≡ Found m (asCoordinates (haeAt table body m))
+unfolding turnedBetween
+hae-place table body m h b =
+    let accepted = after-tested (Minutes m) table (pos 0) m refl (h .known) ∙ ap (tested (intervalOf table)) (+ℤ-idr m) ∙ inside (intervalOf table) m (h .covered) in
+    ap (λ (o : Moment). placeOn o table body (pos 1)) accepted ∙ ap (λ (t : Bool). placeIf t true table body (pos 1) m) (is-inside (pos 1) (pos 9) body b)

@@ -1,7 +1,7 @@
 -- Document 01, "Numbered refusals", and document 02, Item 1: the number of each.
 use lib.IntN.{ℤ, pos}
 use Rattle.refusals.specs.declared.Refusal.{Refusal}
-use Rattle.refusals.specs.declared.Refusal.the-variants.{NotFinite, OutsideInterval, NoSuchBody, NoSuchFrame, TooFar, NoDirection, NoEllipse, ShortBuffer, NoRow, NoSheet, NoSuchTable}
+use Rattle.refusals.specs.declared.Refusal.the-variants.{NotFinite, OutsideInterval, NoSuchBody, NoSuchFrame, TooFar, NoDirection, NoEllipse, ShortBuffer, NoRow, BadCount, NoSuchTable}
 
 abbrev pub numberOf : Refusal → ℤ
 numberOf NotFinite = pos 1
@@ -13,5 +13,5 @@ numberOf NoDirection = pos 6
 numberOf NoEllipse = pos 7
 numberOf ShortBuffer = pos 8
 numberOf NoRow = pos 9
-numberOf NoSheet = pos 10
+numberOf BadCount = pos 10
 numberOf NoSuchTable = pos 11

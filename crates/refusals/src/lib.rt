@@ -21,8 +21,8 @@ pub enum Refusal {
     ShortBuffer,
     // 9: bytes that are no row, fields that make none, a line that is none.
     NoRow,
-    // 10: a sheet's step that is not 1 to 1,000,000, or its count not 0 to 400.
-    NoSheet,
+    // 10: a step that is not 1 to 1,000,000, or a count that is not one of those taken.
+    BadCount,
     // 11: a table that is not 1 or 2.
     NoSuchTable,
 }
@@ -41,7 +41,7 @@ pub fn number(refusal: Refusal) -> i64
         Refusal::NoEllipse => 7,
         Refusal::ShortBuffer => 8,
         Refusal::NoRow => 9,
-        Refusal::NoSheet => 10,
+        Refusal::BadCount => 10,
         Refusal::NoSuchTable => 11,
     }
 }

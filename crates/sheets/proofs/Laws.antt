@@ -5,17 +5,18 @@ use mathlib.Core.List.{List, _++_}
 use mathlib.Core.Path.{_≡_, ap, subst⁻¹}
 use Prim.Native.Nat.{ℕ, _+_, _*_, _≤_, _<_}
 use native.Mathlib.Numerals.{add-one}
-use native.Mathlib.Omega.{arith}
 use lib.Dec.{T, leb}
 use lib.IntN.{ℤ, pos, natAbs}
 use lib.ListN.{length, drop}
 use borrow.Author.Tests.{le-leb, lt-leb}
 use mir.Facts.{and-yes}
 use Rattle.integers.specs.Range.{Within, FromTo, isFromTo}
-use Rattle.integers.proofs.Ranges.{of-test, range-within, range-most}
-use Rattle.refusals.specs.declared.Refusal.the-variants.{ShortBuffer, NoSheet}
+use Rattle.integers.proofs.Ranges.{of-test, range-most}
+use Rattle.refusals.specs.declared.Refusal.the-variants.{ShortBuffer, BadCount}
 use Rattle.refusals.specs.Number.{numberOf}
 use Rattle.dates.specs.declared.Date.{Date}
+use Rattle.dates.specs.Moment.{isStep}
+use Rattle.dates.proofs.Laws.{step-small}
 use Rattle.places.specs.declared.PlaceAnswer.{PlaceAnswer}
 use Rattle.places.specs.declared.PlaceAnswer.the-variants.{Found, Refused}
 use Rattle.places.specs.Answer.{placeAnswer}
@@ -45,7 +46,7 @@ module _ (start : Date) (step body frame : ℤ) where
   good-more i = rw add-one
 
   module _ (count : ℤ) (before : List ℕ) where
-    pub no-sheet : isSheet step count ≡ false → sheetWritten start step count body frame before ≡ (answered (numberOf NoSheet) 0, before)
+    pub no-sheet : isSheet step count ≡ false → sheetWritten start step count body frame before ≡ (answered (numberOf BadCount) 0, before)
     unfolding sheetWritten
     no-sheet e = ap (λ (b : Bool). sheetIf b (leb (rowSize * natAbs count) (length before)) start step (natAbs count) body frame before) e
 
@@ -67,10 +68,10 @@ pub record Taken (step count : ℤ) : Type 0 where
 pub taken : (step count : ℤ) → isSheet step count ≡ true → Taken step count
 unfolding isSheet
 taken step count e =
-    let t = and-yes (isFromTo (pos 1) (pos 1000000) step) (isFromTo (pos 0) (pos 400) count) (subst⁻¹ T e tt) in
+    let t = and-yes (isStep step) (isFromTo (pos 0) (pos 400) count) (subst⁻¹ T e tt) in
     let c = of-test (pos 0) (pos 400) count (t .1) in
     record {
-      step-small = range-within (pos 1) (pos 1000000) step 1000000 (of-test (pos 1) (pos 1000000) step (t .0)) (omega arith) (omega arith);
+      step-small = step-small step (t .0);
       count-range = c;
       count-small = range-most 0 count c;
     }

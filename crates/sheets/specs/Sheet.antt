@@ -7,9 +7,10 @@ use lib.IntN.{ℤ, pos, natAbs, _*ℤ_}
 use lib.ListN.{length, drop}
 use Rattle.integers.specs.Range.{isFromTo}
 use Rattle.integers.specs.Buffer.{blocks}
-use Rattle.refusals.specs.declared.Refusal.the-variants.{ShortBuffer, NoSheet}
+use Rattle.refusals.specs.declared.Refusal.the-variants.{ShortBuffer, BadCount}
 use Rattle.refusals.specs.Number.{numberOf}
 use Rattle.dates.specs.declared.Date.{Date}
+use Rattle.dates.specs.Moment.{isStep}
 use Rattle.places.specs.declared.PlaceAnswer.{PlaceAnswer}
 use Rattle.places.specs.declared.PlaceAnswer.the-variants.{Found, Refused}
 use Rattle.places.specs.Answer.{placeAfter}
@@ -39,14 +40,14 @@ goodOf start step body frame (suc n) = goodOf start step body frame n + oneIf (a
 
 -- refusal 10: "sheet step not 1 to 1,000,000, or count not 0 to 400"
 unfoldable pub isSheet : ℤ → ℤ → Bool
-isSheet step count = isFromTo (pos 1) (pos 1000000) step && isFromTo (pos 0) (pos 400) count
+isSheet step count = isStep step && isFromTo (pos 0) (pos 400) count
 
 abbrev pub answered : ℤ → ℕ → SheetAnswer
 answered status good = record { status = status; good = good }
 
 -- by whether it is a sheet, and whether there is room for its rows: 10 comes first, then 8, "buffer untouched, count 0"
 abbrev pub sheetIf : (isSheet room : Bool) → Date → ℤ → ℕ → ℤ → ℤ → List ℕ → SheetAnswer × List ℕ
-sheetIf false room start step n body frame before = (answered (numberOf NoSheet) 0, before)
+sheetIf false room start step n body frame before = (answered (numberOf BadCount) 0, before)
 sheetIf true false start step n body frame before = (answered (numberOf ShortBuffer) 0, before)
 sheetIf true true start step n body frame before = (answered (pos 0) (goodOf start step body frame n), rowsOf start step body frame n ++ drop (rowSize * n) before)
 

@@ -101,7 +101,7 @@ fn fill(
 fn is_sheet(step: i64, count: i64) -> bool
     ensures { λ r. ⌜ r ≡ isSheet step count ⌝ }
 {
-    integers::is_from_to(1, 1_000_000, step) & integers::is_from_to(0, 400, count)
+    dates::is_step(step) & integers::is_from_to(0, 400, count)
 }
 
 // The rows for start, start + step, and so on, `count` of them: refusal 10, then 8, and then each row has its own status.
@@ -117,7 +117,7 @@ pub fn sheet(
 {
     if !is_sheet(step, count) {
         return SheetAnswer {
-            status: refusals::number(Refusal::NoSheet),
+            status: refusals::number(Refusal::BadCount),
             good: 0,
         };
     }

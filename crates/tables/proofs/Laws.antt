@@ -15,7 +15,7 @@ use Rattle.integers.specs.Sign.{same}
 use Rattle.integers.proofs.Difference.{zarith}
 use Rattle.integers.proofs.Cast.{read, back, same-bits, pos-fits}
 use Rattle.integers.proofs.Number.{known, w-lit, w-more}
-use Rattle.integers.proofs.Ranges.{is-outside, inside-of, outside-of, range-within}
+use Rattle.integers.proofs.Ranges.{is-inside, is-outside, inside-of, outside-of, range-within}
 use Rattle.refusals.specs.declared.Refusal.{Refusal}
 use Rattle.refusals.specs.declared.Refusal.the-variants.{NotFinite as DateNotFinite, OutsideInterval, NoSuchTable}
 use Rattle.dates.specs.declared.Date.{Date}
@@ -24,7 +24,8 @@ use Rattle.dates.specs.declared.Minute.{Minute}
 use Rattle.dates.specs.declared.Minute.the-variants.{At, NotFinite}
 use Rattle.dates.specs.declared.Moment.the-variants.{Accepted, Refused}
 use Rattle.dates.specs.Minute.{minuteOf}
-use Rattle.dates.proofs.Laws.{not-finite, sum-first, accepted-inside, one-or-two}
+use Rattle.dates.specs.Moment.{tested}
+use Rattle.dates.proofs.Laws.{IsSum, not-finite, at-sum, sum-first, accepted-inside, accepted-is, one-or-two}
 use Rattle.tables.specs.Table.{KnownTable, Body, isTable, intervalIf, intervalOf, OnTable, momentIf, momentAfter}
 
 -- ---- no end of an interval is beyond 50 centuries
@@ -56,6 +57,16 @@ module _ (date : Date) (table offset : ℤ) where
       go false NotFinite e f = let z : _≡_ {A = ℕ} 0 1 = cc in absurd (omega arith)
       go false (At n) e f = let z : _≡_ {A = ℕ} 0 1 = cc in absurd (omega arith)
 
+  -- it is the sum of the date's minute and the offset
+  pub after-is : (m : ℤ) → momentAfter date table offset ≡ Accepted m → IsSum (minuteOf date) offset m
+  unfolding momentAfter
+  after-is m h = go (isTable table) (minuteOf date) h
+    where
+      go : (b : Bool) (minute : Minute) → momentIf b (intervalOf table) minute offset ≡ Accepted m → IsSum minute offset m
+      go true minute f = accepted-is (intervalOf table) minute offset m f
+      go false NotFinite f = let z : _≡_ {A = ℕ} 0 1 = cc in absurd (omega arith)
+      go false (At n) f = let z : _≡_ {A = ℕ} 0 1 = cc in absurd (omega arith)
+
   -- there is no refusal but 1, 2 and 11, and 11 only where there is no such table
   pub after-refused : (r : Refusal) → momentAfter date table offset ≡ Refused r → ((r ≡ DateNotFinite) ⊎ (r ≡ OutsideInterval)) ⊎ ((r ≡ NoSuchTable) × (KnownTable table → ⊥))
   unfolding momentAfter
@@ -70,6 +81,11 @@ module _ (date : Date) (table offset : ℤ) where
   pub after-eleven : (m : ℤ) → minuteOf date ≡ At m → (KnownTable table → ⊥) → momentAfter date table offset ≡ Refused NoSuchTable
   unfolding momentAfter
   after-eleven m e n = λ i. momentIf (is-outside (pos 1) (pos 2) table n i) (intervalOf table) (e i) offset
+
+  -- a table that there is tests the sum
+  pub after-tested : (m : ℤ) → minuteOf date ≡ At m → KnownTable table → momentAfter date table offset ≡ tested (intervalOf table) (m +ℤ offset)
+  unfolding momentAfter
+  after-tested m e h = (λ i. momentIf (is-inside (pos 1) (pos 2) table h i) (intervalOf table) (e i) offset) ∙ at-sum (intervalOf table) m offset
 
   -- "sums taken exactly": a date of minute m and an offset is the date of their sum
   pub after-minute : (m : ℤ) → minuteOf date ≡ At m → momentAfter date table offset ≡ momentAfter (Minutes (m +ℤ offset)) table (pos 0)

@@ -1,11 +1,12 @@
 -- `is_sheet` is the definition's test of a step and a count.
--- The two tests of ranges, of the numbers read back.
+-- The tests of a step and of a range, of the numbers read back.
 use borrow.Author.Needs.{needs}
 use mathlib.Core.Bool.{_&&_}
 use mathlib.Core.Path.{ap, _∙_}
 use lib.IntN.{pos}
 use Rattle.integers.specs.Range.{isFromTo}
 use Rattle.integers.proofs.Cast.{back}
+use Rattle.dates.specs.Moment.{isStep}
 use Rattle.sheets.specs.Sheet.{isSheet}
 use Rattle.sheets.proofs.is_sheet.Statement.{statement}
 use Rattle.sheets.proofs.is_sheet.Tie as tie
@@ -14,8 +15,8 @@ returns : tie.Need-returns
 unfolding isSheet
 returns c =
     let s = c .before .before in
-    let p = c .before .is-from-to .ensures ∙ ap (isFromTo (pos 1) (pos 1000000)) (back (s .args .step) (s .fits .step)) in
-    let q = c .is-from-to2 .ensures ∙ ap (isFromTo (pos 0) (pos 400)) (back (s .args .count) (s .fits .count)) in
+    let p = c .before .is-step .ensures ∙ ap isStep (back (s .args .step) (s .fits .step)) in
+    let q = c .is-from-to .ensures ∙ ap (isFromTo (pos 0) (pos 400)) (back (s .args .count) (s .fits .count)) in
     λ i. p i && q i
 
 pub is-sheet-spec : {M : Type 1} → statement M

@@ -6,26 +6,21 @@ use Prim.Native.Nat.{ℕ}
 use lib.IntN.{ℤ, _*ℤ_}
 use Rattle.integers.specs.Floor.{floorDiv}
 use Rattle.integers.proofs.Cast.{read, back-ok}
-use Rattle.integers.proofs.Number.{Num, known, mul-fits, mul, sub-fits, sub}
+use Rattle.integers.proofs.Number.{Num, mul-fits, sub-fits, sub}
+use Rattle.integers.proofs.Triples.{part-num, parts-num}
 use Rattle.integers.specs.Triple.{at}
 use Rattle.vectors.proofs.cross_part.Statement.{statement}
 use Rattle.vectors.proofs.cross_part.Tie as tie
 
-module _ (t : tie.Start) where
-  a : (k : ℕ) → Num (read (at (t .args .t1) k)) (at (t .args .t1) k) 1000000000
-  a k = known (t .pre .0 .part k) tt
-
-  b : (k : ℕ) → Num (read (at (t .args .t2) k)) (at (t .args .t2) k) 1000000000
-  b k = known (t .pre .1 .0 .part k) tt
-
-  by : (i j : ℕ) → Num (read (read (at (t .args .t1) i) *ℤ read (at (t .args .t2) j))) (at (t .args .t1) i *ℤ at (t .args .t2) j) 1000000000000000000
-  by i j = mul (a i) (b j) tt
+-- a product of parts i and j
+by : (t : tie.Start) (i j : ℕ) → Num (read (read (at (t .args .t1) i) *ℤ read (at (t .args .t2) j))) (at (t .args .t1) i *ℤ at (t .args .t2) j) 1000000000000000000
+by t = parts-num (t .pre .0) (t .pre .1 .0)
 
 mul-floor-div-3 : tie.Need-mul-floor-div-3
-mul-floor-div-3 c = let t = c .before .before in mul-fits (a t (t .args .i)) (b t (t .args .j)) tt
+mul-floor-div-3 c = let t = c .before .before in mul-fits (part-num (t .pre .0) (t .args .i)) (part-num (t .pre .1 .0) (t .args .j)) tt
 
 mul-floor-div-6 : tie.Need-mul-floor-div-6
-mul-floor-div-6 c = let t = c .before .before .before .before in mul-fits (a t (t .args .j)) (b t (t .args .i)) tt
+mul-floor-div-6 c = let t = c .before .before .before .before in mul-fits (part-num (t .pre .0) (t .args .j)) (part-num (t .pre .1 .0) (t .args .i)) tt
 
 sub-floor-div : tie.Need-sub-floor-div
 sub-floor-div c = let t = c .before .before .before .before in sub-fits (by t (t .args .i) (t .args .j)) (by t (t .args .j) (t .args .i)) tt
