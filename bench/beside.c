@@ -3,7 +3,8 @@
  *     beside BEFORE AFTER
  *
  * Both are shared libraries made of times.c and of one build. Each round times every line of both once, in turn, so that
- * what else the machine does favours neither. For each line its name and the least of each side are printed, with tabs. */
+ * what else the machine does favours neither. For each line that both builds have, its name and the least of each side are
+ * printed, with tabs. */
 #define _POSIX_C_SOURCE 200809L
 #include <dlfcn.h>
 #include <math.h>
@@ -66,6 +67,7 @@ int main(int count, char **words)
                 least[side][i] = fmin(least[side][i], builds[side].ours(i));
 
     for (int i = 0; i < lines; i++)
-        printf("%s\t%.1f\t%.1f\n", builds[0].name(i), least[0][i], least[1][i]);
+        if (isfinite(least[0][i]) && isfinite(least[1][i]))
+            printf("%s\t%.1f\t%.1f\n", builds[0].name(i), least[0][i], least[1][i]);
     return 0;
 }

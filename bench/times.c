@@ -8,6 +8,7 @@
 #include <stdbool.h>
 #include <stdint.h>
 #include <stdio.h>
+#include <stdlib.h>
 #include <time.h>
 
 #include "double.h"
@@ -19,6 +20,8 @@ enum {
     CALLS = 8000, /* in a round: one to four milliseconds, so that some rounds run without a break */
     ROUNDS = 150,
     SHEETS = CALLS / LINDENBROOD_MOST_ROWS,
+    SEARCHES = CALLS / LINDENBROOD_MOST_DATES,
+    HOUR = 60,
     DAY = 1440
 };
 #define RADIANS 0.017453292519943295
@@ -31,6 +34,10 @@ static int64_t long_minutes[CALLS], outer_bodies[CALLS];
 static const int64_t *bodies;
 static double julian_dates[CALLS];
 static uint64_t squares[CALLS]; /* as step 4 has them: 9.3·10^17 up to 10^18 */
+
+/* Searches by the hour, 167 days, that find nothing, so that every date is looked at. */
+static const int64_t search_bodies[SEARCHES] = {LINDENBROOD_MARS, LINDENBROOD_JUPITER};
+static int64_t search_minutes[SEARCHES];
 
 static uint8_t rows[LINDENBROOD_MOST_ROWS * LINDENBROOD_ROW_BYTES];
 static volatile double sink; /* what is computed is used */
@@ -66,6 +73,38 @@ static void make_inputs(void)
         outer_bodies[i] = chance_between(LINDENBROOD_JUPITER, LINDENBROOD_NEPTUNE);
         squares[i] = (uint64_t)chance_between(930000000000000000, 1000000000000000000);
     }
+}
+
+/* The same search over the plain program: the place of the date found, from 1, or 0. */
+static int plain_search(int64_t start, int64_t step, int count, int64_t body)
+{
+    double planet[3], earth[3], before = 0; /* the first date has none before it */
+
+    for (int k = 0; k < count; k++) {
+        double_place((double)(start + k * step), (int)body, planet);
+        double_place((double)(start + k * step), LINDENBROOD_EARTH, earth);
+        double dot = planet[0] * earth[0] + planet[1] * earth[1];
+        double cross = planet[0] * earth[1] - planet[1] * earth[0];
+
+        if (dot > 0 && (cross == 0 || cross * before < 0))
+            return k + 1;
+        before = cross;
+    }
+    return 0;
+}
+
+static lindenbrood_viewing_answer our_search(int i)
+{
+    return lindenbrood_viewing(lindenbrood_minutes(search_minutes[i]), HOUR, LINDENBROOD_MOST_DATES, search_bodies[i]);
+}
+
+/* The first of the minutes above from which the plain program finds none. */
+static void make_searches(void)
+{
+    for (int i = 0, next = 0; i < SEARCHES; i++)
+        do
+            search_minutes[i] = minutes[next++];
+        while (plain_search(search_minutes[i], HOUR, LINDENBROOD_MOST_DATES, search_bodies[i]) != 0);
 }
 
 /* A batch makes all calls of a round with one parameter and answers a sum of what came out. */
@@ -334,36 +373,58 @@ static double plain_sheets(int64_t frame)
     return sum;
 }
 
+static double our_searches(int64_t unused)
+{
+    double looked = 0;
+
+    (void)unused;
+    for (int i = 0; i < SEARCHES; i++)
+        looked += (double)our_search(i).looked;
+    return looked;
+}
+
+static double plain_searches(int64_t unused)
+{
+    double found = 0;
+
+    (void)unused;
+    for (int i = 0; i < SEARCHES; i++)
+        found += plain_search(search_minutes[i], HOUR, LINDENBROOD_MOST_DATES, search_bodies[i]);
+    return found;
+}
+
 typedef struct {
     const char *what;
+    int calls;             /* in a batch, whose time is divided by them */
     int64_t parameter;     /* frame, eccentricity in 10^-8, table, or whether a number waits for the one before it */
     const int64_t *bodies; /* who is asked for */
     batch batches[3];      /* ours, the plain program's, eraPlan94's; NULL where there is none */
 } line;
 
 static const line lines[] = {
-    {"place in HAE", LINDENBROOD_HAE, nine_bodies, {our_places, plain_places, NULL}},
-    {"the same, bodies 1 to 8", LINDENBROOD_HAE, eight_bodies, {our_places, plain_places, plan94_places}},
-    {"place in HEEQ", LINDENBROOD_HEEQ, nine_bodies, {our_places, plain_places, NULL}},
-    {"place by Table 2, 5 to 8", LINDENBROOD_HAE, outer_bodies, {our_long_places, plain_long_places, NULL}},
-    {"solve, e 0.0068", 680000, nine_bodies, {our_solves, plain_solves, NULL}},
-    {"solve, e 0.0167", 1670000, nine_bodies, {our_solves, plain_solves, NULL}},
-    {"solve, e 0.0934", 9340000, nine_bodies, {our_solves, plain_solves, NULL}},
-    {"solve, e 0.2056", 20560000, nine_bodies, {our_solves, plain_solves, NULL}},
-    {"solve, e 0.2488", 24880000, nine_bodies, {our_solves, plain_solves, NULL}},
-    {"solve, e 0.9", 90000000, nine_bodies, {our_solves, plain_solves, NULL}},
-    {"elements", 0, nine_bodies, {our_elements, plain_elements, NULL}},
+    {"place in HAE", CALLS, LINDENBROOD_HAE, nine_bodies, {our_places, plain_places, NULL}},
+    {"the same, bodies 1 to 8", CALLS, LINDENBROOD_HAE, eight_bodies, {our_places, plain_places, plan94_places}},
+    {"place in HEEQ", CALLS, LINDENBROOD_HEEQ, nine_bodies, {our_places, plain_places, NULL}},
+    {"place by Table 2, 5 to 8", CALLS, LINDENBROOD_HAE, outer_bodies, {our_long_places, plain_long_places, NULL}},
+    {"solve, e 0.0068", CALLS, 680000, nine_bodies, {our_solves, plain_solves, NULL}},
+    {"solve, e 0.0167", CALLS, 1670000, nine_bodies, {our_solves, plain_solves, NULL}},
+    {"solve, e 0.0934", CALLS, 9340000, nine_bodies, {our_solves, plain_solves, NULL}},
+    {"solve, e 0.2056", CALLS, 20560000, nine_bodies, {our_solves, plain_solves, NULL}},
+    {"solve, e 0.2488", CALLS, 24880000, nine_bodies, {our_solves, plain_solves, NULL}},
+    {"solve, e 0.9", CALLS, 90000000, nine_bodies, {our_solves, plain_solves, NULL}},
+    {"elements", CALLS, 0, nine_bodies, {our_elements, plain_elements, NULL}},
     /* Two on the same dates and bodies. The first needs no sine and builds no table of sines; what they differ by is what
      * Table 2 costs, mostly that table and the further terms. */
-    {"mean anomaly, 5 to 8", 0, outer_bodies, {our_mean_anomalies, NULL, NULL}},
-    {"the same by Table 2", LINDENBROOD_TABLE_2, outer_bodies, {our_mean_anomalies_by_table, NULL, NULL}},
-    {"sine", 0, nine_bodies, {our_sines, plain_sines, NULL}},
-    {"root near 10^18", false, nine_bodies, {our_roots, plain_roots, NULL}},
-    {"the same, one waits", true, nine_bodies, {our_roots, plain_roots, NULL}},
-    {"row in HAE, Julian date", LINDENBROOD_HAE, nine_bodies, {our_rows, plain_rows, NULL}},
+    {"mean anomaly, 5 to 8", CALLS, 0, outer_bodies, {our_mean_anomalies, NULL, NULL}},
+    {"the same by Table 2", CALLS, LINDENBROOD_TABLE_2, outer_bodies, {our_mean_anomalies_by_table, NULL, NULL}},
+    {"sine", CALLS, 0, nine_bodies, {our_sines, plain_sines, NULL}},
+    {"root near 10^18", CALLS, false, nine_bodies, {our_roots, plain_roots, NULL}},
+    {"the same, one waits", CALLS, true, nine_bodies, {our_roots, plain_roots, NULL}},
+    {"search of 4,000 dates", SEARCHES, 0, search_bodies, {our_searches, plain_searches, NULL}},
+    {"row in HAE, Julian date", CALLS, LINDENBROOD_HAE, nine_bodies, {our_rows, plain_rows, NULL}},
     /* The last two ask for the same rows, by minutes both: what they differ by is what a sheet saves. */
-    {"row in HAE, sheet's dates", LINDENBROOD_HAE, nine_bodies, {our_single_rows, plain_sheets, NULL}},
-    {"row of a 400-row sheet", LINDENBROOD_HAE, nine_bodies, {our_sheets, plain_sheets, NULL}},
+    {"row in HAE, sheet's dates", CALLS, LINDENBROOD_HAE, nine_bodies, {our_single_rows, plain_sheets, NULL}},
+    {"row of a 400-row sheet", CALLS, LINDENBROOD_HAE, nine_bodies, {our_sheets, plain_sheets, NULL}},
 };
 enum { LINES = sizeof lines / sizeof *lines, SINGLE_ROW = LINES - 2, SHEET_ROW = LINES - 1 };
 
@@ -375,27 +436,26 @@ static double now(void)
     return (double)t.tv_sec * 1e9 + (double)t.tv_nsec;
 }
 
-/* Nanoseconds for one call. */
-static double time_of(batch made, int64_t parameter)
-{
-    double start = now();
-
-    sink = made(parameter);
-    return (now() - start) / CALLS;
-}
-
 /* Nanoseconds for one call of a line, on one side. */
 static double time_of_line(int i, int side)
 {
+    double start;
+
     bodies = lines[i].bodies;
-    return time_of(lines[i].batches[side], lines[i].parameter);
+    start = now();
+    sink = lines[i].batches[side](lines[i].parameter);
+    return (now() - start) / lines[i].calls;
 }
 
 #ifdef FOR_BESIDE
+/* A checkout from before the search has no such call, and no time for it. */
+#pragma weak lindenbrood_viewing
+
 /* For bench/beside.c, which loads this file twice, each time with another library, and times the two in turn. */
 void times_prepare(void)
 {
     make_inputs();
+    make_searches();
 }
 
 int times_lines(void)
@@ -410,12 +470,32 @@ const char *times_name(int i)
 
 double times_ours(int i)
 {
+    if (lines[i].batches[0] == our_searches && lindenbrood_viewing == NULL)
+        return INFINITY;
     return time_of_line(i, 0);
 }
 #else
+/* Both sides answer a search alike: those that are timed, and one by the day, in which a date is found. */
+static void searches_agree(void)
+{
+    for (int i = 0; i < SEARCHES; i++) {
+        const int days = LINDENBROOD_MOST_ROWS; /* of a sheet: they end within the interval */
+        lindenbrood_viewing_answer timed = our_search(i);
+        lindenbrood_viewing_answer daily =
+            lindenbrood_viewing(lindenbrood_minutes(search_minutes[i]), DAY, days, search_bodies[i]);
+        int place = plain_search(search_minutes[i], DAY, days, search_bodies[i]);
+
+        if (timed.status != LINDENBROOD_NO_SUCH_DATE || timed.looked != LINDENBROOD_MOST_DATES
+            || daily.status != LINDENBROOD_ANSWERED || daily.looked != place) {
+            fprintf(stderr, "search %d: the two sides do not find the same\n", i);
+            exit(1);
+        }
+    }
+}
+
 static void print_line(const char *what, const double least[3])
 {
-    printf("%-26s %8.1f", what, least[0]);
+    printf("%-26s %9.1f", what, least[0]);
     for (int side = 1; side < 3; side++)
         if (least[side] < INFINITY)
             printf(" %11.1f %8.2f", least[side], least[0] / least[side]);
@@ -429,6 +509,8 @@ int main(void)
     static double least[LINES][3];
 
     make_inputs();
+    make_searches();
+    searches_agree();
     for (int i = 0; i < LINES; i++)
         for (int side = 0; side < 3; side++)
             least[i][side] = INFINITY;
@@ -438,10 +520,10 @@ int main(void)
                 if (lines[i].batches[side] != NULL)
                     least[i][side] = fmin(least[i][side], time_of_line(i, side));
 
-    printf("%-26s %8s %11s %8s %11s %8s\n", "nanoseconds", "ours", "plain C", "ratio", "eraPlan94", "ratio");
+    printf("%-26s %9s %11s %8s %11s %8s\n", "nanoseconds", "ours", "plain C", "ratio", "eraPlan94", "ratio");
     for (int i = 0; i < LINES; i++)
         print_line(lines[i].what, least[i]);
-    printf("%-26s %8.1f  the sine table's build, and whatever else a sheet does once and each single row anew\n",
+    printf("%-26s %9.1f  the sine table's build, and whatever else a sheet does once and each single row anew\n",
            "their difference", least[SINGLE_ROW][0] - least[SHEET_ROW][0]);
     return 0;
 }

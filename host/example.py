@@ -1,5 +1,5 @@
 #!/usr/bin/env python3
-"""Mars on a Julian date, from Python: make -C host, then python3 host/example.py [LIBRARY]."""
+"""Mars and its next opposition, from Python: make -C host, then python3 host/example.py [LIBRARY]."""
 
 import ctypes
 import pathlib
@@ -22,8 +22,22 @@ class Place(ctypes.Structure):
                 ("y", ctypes.c_double), ("z", ctypes.c_double)]
 
 
-place_of = ctypes.CDLL(sys.argv[1] if len(sys.argv) > 1 else BUILT).lindenbrood_place
-place_of.argtypes = [Date, ctypes.c_int64, ctypes.c_int64]
-place_of.restype = Place
-mars = place_of(Date(form=0, julian=2451545.0), 4, 1)
+class Viewing(ctypes.Structure):
+    """lindenbrood_viewing_answer: a status, the minutes of the date found, the dates looked at."""
+
+    _fields_ = [("status", ctypes.c_int64), ("minutes", ctypes.c_int64),
+                ("looked", ctypes.c_int64)]
+
+
+library = ctypes.CDLL(sys.argv[1] if len(sys.argv) > 1 else BUILT)
+library.lindenbrood_place.argtypes = [Date, ctypes.c_int64, ctypes.c_int64]
+library.lindenbrood_place.restype = Place
+library.lindenbrood_viewing.argtypes = [Date, ctypes.c_int64, ctypes.c_int64, ctypes.c_int64]
+library.lindenbrood_viewing.restype = Viewing
+
+mars = library.lindenbrood_place(Date(form=0, julian=2451545.0), 4, 1)
 print(f"status {mars.status}: Mars at {mars.x} {mars.y} {mars.z} au")
+start = Date(form=0, julian=2461361.0)  # noon on 16 November 2026
+night = library.lindenbrood_viewing(start, 1440, 4000, 4)  # a day at a time, 4,000 days
+julian = 2451545 + night.minutes / 1440
+print(f"status {night.status}: Mars at opposition by JD {julian}, {night.looked} dates looked at")

@@ -79,5 +79,6 @@ void test_sheets(void);
 void test_forms(void);
 void test_tables(void);
 void test_long_table(void);
+void test_viewing(void);
 
 #endif

@@ -14,6 +14,7 @@ typedef struct {
     lindenbrood_vector_answer counts, turned;
     int64_t row_status;
     lindenbrood_sheet_answer sheet;
+    lindenbrood_viewing_answer viewing;
     uint8_t row[ROW], rows[ROWS];
 } answers;
 
@@ -28,6 +29,7 @@ static answers on(lindenbrood_date date)
     a.turned = lindenbrood_turn(date, 1, 5, 100000000, -200000000, 300000000);
     a.row_status = lindenbrood_row(date, 1, 5, a.row, ROW);
     a.sheet = lindenbrood_sheet(date, 1440, 3, 1, 5, a.rows, ROWS);
+    a.viewing = lindenbrood_viewing(date, 1440, 1, 1);
     return a;
 }
 
@@ -49,6 +51,7 @@ static void same(lindenbrood_date date, const answers *wanted)
     CHECK_SAME(row_status);
     CHECK_SAME(row);
     CHECK_SAME(sheet);
+    CHECK_SAME(viewing);
     CHECK_SAME(rows);
 }
 
@@ -62,6 +65,8 @@ static void have_status(const answers *a, int64_t status)
     CHECK(a->turned.status == status, "wanted %" PRId64, status);
     CHECK(a->row_status == status && a->row[3] == status, "wanted %" PRId64, status);
     CHECK(a->sheet.status == 0 && a->rows[3] == status, "wanted %" PRId64, status);
+    /* One date, with none before it, is no viewing night. */
+    CHECK(a->viewing.status == (status == 0 ? 12 : status), "wanted %" PRId64, status);
 }
 
 /* Forms that are not 0, some of them 0 to whoever takes fewer bits. */

@@ -37,6 +37,7 @@ int main(void)
     test_forms();
     test_tables();
     test_long_table();
+    test_viewing();
     printf("host tests: %ld checks, %ld failed\n", checks, failed);
     return failed == 0 ? 0 : 1;
 }

@@ -2,7 +2,8 @@
  * lindenbrood.h
  *
  * Heliocentric places of nine bodies, vectors turned between Sun-centred
- * frames, and the 38-byte rows that a projector reads.
+ * frames, the 38-byte rows that a projector reads, and the next opposition or
+ * inferior conjunction of a planet.
  *
  * Sources: E. M. Standish, approximate positions of the planets (elements and
  * steps); M. Fraenz and D. Harper 2002, heliospheric coordinate systems
@@ -78,9 +79,9 @@
  *    0   the call is answered                              the answer
  *    1   the date has form 0 and a Julian date that is     zeros, or a refused row
  *        not finite
- *    2   the date's minute is outside the interval of the  zeros, or a refused row
- *        table used
- *    3   the body is not 1 to 9                            zeros, or a refused row
+ *    2   the date's minute, or that of a search's last     zeros, or a refused row
+ *        date, is outside the interval of the table used
+ *    3   the body is not 1 to 9; for a search also body 3  zeros, or a refused row
  *    4   a frame is not 1 to 5                             zeros, or a refused row
  *    5   a part of a given vector or place is beyond       zeros
  *        +-500000000
@@ -91,12 +92,15 @@
  *    8   the buffer is shorter than the rows asked for     buffer untouched, no good row
  *    9   the bytes are no row (fewer than 38 are none),    zeros; a buffer untouched
  *        or the fields to be written make none
- *   10   the sheet's step is not 1 to 1000000, or its      buffer untouched, no good row
- *        count is not 0 to 400
+ *   10   the step of a sheet or a search is not 1 to       zeros; a buffer untouched,
+ *        1000000, or the count is not 0 to 400 for a       no good row
+ *        sheet, 1 to 4000 for a search
  *   11   the table is not 1 or 2                           zeros
+ *   12   no date of the search's span is an opposition or  minutes 0; looked is the
+ *        an inferior conjunction                           whole count
  *
  * Where several apply only the first is given, in this order: 10, 8, 1, 11,
- * and then the others by number.  Only 0 to 4 stand in rows.
+ * and then the others by number, so that 12 is last.  Only 0 to 4 stand in rows.
  *
  * Every number given may have any value, each member of a date too: what is
  * out of range is refused by its number, and nothing overflows.  L is the floor
@@ -134,8 +138,10 @@ enum {
     LINDENBROOD_NO_ELLIPSE = 7,
     LINDENBROOD_SHORT_BUFFER = 8,
     LINDENBROOD_NO_ROW = 9,
-    LINDENBROOD_NO_SHEET = 10,
-    LINDENBROOD_NO_SUCH_TABLE = 11
+    LINDENBROOD_BAD_COUNT = 10, /* or a bad step */
+    LINDENBROOD_NO_SHEET = 10,  /* its older name */
+    LINDENBROOD_NO_SUCH_TABLE = 11,
+    LINDENBROOD_NO_SUCH_DATE = 12
 };
 
 enum {
@@ -169,7 +175,8 @@ enum {
     LINDENBROOD_PART_LIMIT = 500000000,    /* 50 au */
     LINDENBROOD_E_LIMIT = 90000000,        /* 0.9 */
     LINDENBROOD_ROW_BYTES = 38,
-    LINDENBROOD_MOST_ROWS = 400,
+    LINDENBROOD_MOST_ROWS = 400,           /* of a sheet */
+    LINDENBROOD_MOST_DATES = 4000,         /* of a search */
     LINDENBROOD_MOST_STEP = 1000000        /* minutes */
 };
 
@@ -222,6 +229,13 @@ typedef struct {
     int64_t status; /* 0, or the refusal */
     int64_t good;   /* how many rows were written with status 0 */
 } lindenbrood_sheet_answer;
+
+/* What a search found. */
+typedef struct {
+    int64_t status;  /* 0, or the refusal */
+    int64_t minutes; /* the date found, from JD 2451545.0; 0 with every refusal */
+    int64_t looked;  /* its place in the span, from 1; the count with 12, else 0 */
+} lindenbrood_viewing_answer;
 
 /* The fields of a row that was read. */
 typedef struct {
@@ -488,6 +502,95 @@ lindenbrood_place_answer lindenbrood_place_by_table(lindenbrood_date date,
 lindenbrood_vector_answer lindenbrood_counts_by_table(lindenbrood_date date,
                                                       int64_t table, int64_t body,
                                                       int64_t frame);
+
+/* ------------------------------------------------------------------------
+ * Viewing nights
+ * ------------------------------------------------------------------------
+ *
+ * A planet is best seen about its opposition, when the Earth passes between it
+ * and the Sun.  Mercury and Venus pass between the Earth and the Sun instead,
+ * at their inferior conjunction.  Either way planet and Earth lie in the same
+ * direction from the Sun, so that one rule finds both.
+ *
+ * With (px, py) and (ex, ey) the HAE counts of the planet and of body 3 on a
+ * date, by the same table, the date counts as such an event where
+ *
+ *   px ex + py ey is above 0, and
+ *   px ey - py ex is 0, or has the sign opposite to that on the date before it
+ *   in the span.  The first date has none before it, and 0 is opposite to
+ *   nothing.
+ *
+ * All of it is in whole numbers, exact.  A search takes no frame and no bytes.
+ */
+
+/*
+ * lindenbrood_viewing
+ *
+ * The first opposition of a planet, or inferior conjunction of Mercury or
+ * Venus, among the dates start, start + step, start + 2 step and so on.
+ *
+ * Given:
+ *   start   the span's first date: a Julian date or minutes, see DATES
+ *   step    minutes, 1 to 1000000; 1440 for a day
+ *   count   dates in the span, 1 to 4000
+ *   body    1 to 9, but not 3
+ *
+ * Returned: the status, the date in minutes, and how many dates were looked at.
+ *   0             minutes is the first date that counts, looked its place in
+ *                 the span, from 1
+ *   12            no date of the span counts: minutes is 0, looked is count
+ *   10, 1, 2, 3   minutes and looked are 0.  2 is for a span whose first date
+ *                 or last date, start + (count - 1) step, is outside Table 1's
+ *                 interval
+ *   The first refusal that applies, in this order: 10, 1, 2, 3, 12.
+ *
+ * Notes:
+ *   Keep to a step of ten days (14400) or less, which is small enough for every
+ *   body.  Where planet and Earth turn against each other by a quarter or more
+ *   between two dates, an event may be jumped over, or one found where there is
+ *   none.
+ *   With a small step the date found is the first at the event or after it, so
+ *   that the event lies between the date before and the date found.  For its
+ *   minute, search again from the date before with smaller steps, down to 1.
+ *   An event on the span's first date is found only where px ey - py ex is
+ *   exactly 0, so begin a step before the first date that matters.  For the
+ *   event after this one begin a step after the date found.
+ *   A larger count, where it is accepted too, never changes a date found or its
+ *   place.
+ *   Minute 0 is also a date, noon on 1 January 2000: whether one was found is
+ *   for the status to say.
+ *   The sums are exact and never wrap.  A Julian start becomes its minute
+ *   first, and the steps are added to that.
+ */
+lindenbrood_viewing_answer lindenbrood_viewing(lindenbrood_date start, int64_t step,
+                                               int64_t count, int64_t body);
+
+/*
+ * lindenbrood_viewing_by_table
+ *
+ * The same search by the table named.
+ *
+ * Given:
+ *   start   the span's first date: a Julian date or minutes, see DATES
+ *   table   1 or 2, see TABLES
+ *   step    minutes, 1 to 1000000
+ *   count   dates in the span, 1 to 4000
+ *   body    1 to 9, but not 3
+ *
+ * Returned: the status, the date in minutes, and how many dates were looked at.
+ *   0                 minutes is the first date that counts, looked its place
+ *                     in the span, from 1
+ *   12                no date of the span counts: minutes is 0, looked is count
+ *   10, 1, 11, 2, 3   minutes and looked are 0.  2 is for a span whose first or
+ *                     last date is outside the named table's interval
+ *   The first refusal that applies, in this order: 10, 1, 11, 2, 3, 12.
+ *
+ * Note: with table 1 this is lindenbrood_viewing, whose notes hold for both
+ * tables.  Planet and Earth are both by the table named.
+ */
+lindenbrood_viewing_answer lindenbrood_viewing_by_table(lindenbrood_date start,
+                                                        int64_t table, int64_t step,
+                                                        int64_t count, int64_t body);
 
 /* ------------------------------------------------------------------------
  * Vectors turned

@@ -4,6 +4,7 @@ A function named some_... takes a random.Random and answers one input; most
 inputs are such as document 01 accepts, the others are just outside or wild.
 """
 
+import itertools
 import math
 import struct
 from collections import namedtuple
@@ -339,3 +340,140 @@ def some_sheet(chance):
     size = max(room + chance.choice((0, 0, 0, 0, 50, -1, -room)), 0)
     return (some_start(chance), step, count, some_body(chance), some_frame(chance),
             chance.randbytes(size))
+
+
+# -------------------------------------------------------------- viewing nights
+
+# A table of None is the call that names none.
+Search = namedtuple("Search", "start table step count body")
+STEPS_TRIED = (1, 1_000_000, 0, -1, 1_000_001, LEAST, MOST)
+COUNTS_TRIED = (1, 2, x.MOST_DATES, 0, -1, x.MOST_DATES + 1, LEAST, MOST)
+BODIES_TRIED = (4, 3, 0, 10, LEAST, MOST)
+PLANETS = tuple(body for body in range(1, 10) if body != x.EARTH)
+DAY = 1440
+
+
+def table_of(search):
+    return x.DEFAULT_TABLE if search.table is None else search.table
+
+
+def search_edges():
+    """Every refusal beside every other: a wrong order shows."""
+    starts = (0, LEAST, MOST, *NOT_FINITE)
+    return itertools.starmap(Search, itertools.product(
+        starts, (None, *TABLES_TRIED), STEPS_TRIED, COUNTS_TRIED, BODIES_TRIED))
+
+
+def spans_tried(table):
+    """(step, count): short ones, and 4,000 dates that just fill the interval or do not."""
+    first, last = x.INTERVALS[table]
+    filling = (last - first) // (x.MOST_DATES - 1)
+    return ((1, 1), (1, 2), (7, 30), (DAY, 2), (DAY, 30), (1_000_000, 1), (1_000_000, 2),
+            (1_000_000, 30), (filling, x.MOST_DATES), (filling + 1, x.MOST_DATES))
+
+
+def starts_tried(table, step, count):
+    """The span's first or last date at an end of the interval, or a minute off it."""
+    first, last = x.INTERVALS[table]
+    return (end + more for end in (first, last, last - (count - 1) * step)
+            for more in (-1, 0, 1))
+
+
+def span_edges():
+    """Those spans and starts for all bodies, as minutes and as Julian dates."""
+    for table in (None, 1, 2):
+        number = table or x.DEFAULT_TABLE
+        for step, count in spans_tried(number):
+            starts = starts_tried(number, step, count)
+            for minute, body in itertools.product(starts, range(11)):
+                yield Search(minute, table, step, count, body)
+                yield Search(x.EPOCH + minute / DAY, table, step, count, body)
+
+
+def next_meeting(minute, body, table):
+    """The next minute at which planet and Earth have the same mean longitude.
+
+    A viewing night is within some weeks of it, before or after.
+    """
+    planet, earth = (x.elements(minute, number, table).mean_longitude
+                     for number in (body, x.EARTH))
+    orbits = x.TABLES[table].orbits
+    gain = orbits[body - 1][1][3] - orbits[x.EARTH - 1][1][3]
+    apart = (earth - planet if gain > 0 else planet - earth) % (360 * 10**8)
+    return minute + apart * x.CENTURY // abs(gain)
+
+
+def some_form(chance, minute):
+    """The minute, or a Julian date that is it or lies within half a minute of it."""
+    return chance.choice((minute, minute, x.EPOCH + minute / DAY,
+                          near_julian(chance, minute)))
+
+
+def search_by_days(chance, table, body, minute):
+    """From up to two months before a meeting; the step is often a day."""
+    start = next_meeting(minute, body, table) - chance.randint(0, 60 * DAY)
+    step = chance.choice((DAY, DAY, DAY // 2, chance.randint(100, 5000)))
+    return start, step, chance.randint(1, 200)
+
+
+def search_by_minutes(chance, table, body, minute):
+    """From about a day before the night that a search by days finds, or less.
+
+    Where that search is refused, near an interval's end, minute 0 stands in for it.
+    """
+    start = next_meeting(minute, body, table) - 60 * DAY
+    _, night, _ = x.viewing_answer(start, DAY, 120, body, table)
+    step = chance.choice((1, 2, 5, 10, chance.randint(1, 100)))
+    reach = min(DAY // step + 1, 300)
+    return night - chance.randint(-2, reach) * step, step, chance.randint(1, 2 * reach)
+
+
+def search_for_years(chance, table, body, minute):
+    """A day at a time from any date; Venus and Mars often have no night in it."""
+    return minute, DAY, chance.randint(200, 1000)
+
+
+def search_of_large_steps(chance, table, body, minute):
+    """Any step, and a count that the interval has room for, or nearly."""
+    step = chance.choice((1_000_000, chance.randint(1, 1_000_000),
+                          chance.randint(1, 100_000)))
+    room = (x.INTERVALS[table][1] - minute) // step + 1
+    most = min(room, x.MOST_DATES)
+    fewer = chance.randint(1, most)
+    return minute, step, chance.choice((most, most + 1, fewer, fewer))
+
+
+def long_search(chance, table, body, minute):
+    """Many dates close together: mostly without a night."""
+    return minute, chance.randint(1, 60), chance.randint(1000, x.MOST_DATES)
+
+
+SEARCHES = (*(search_by_days,) * 8, *(search_by_minutes,) * 5, *(search_for_years,) * 2,
+            *(search_of_large_steps,) * 4, long_search)
+
+
+def some_search(chance):
+    """One search of some kind; in one of six a part of it is drawn anew."""
+    table, body = chance.choice((None, 1, 2)), chance.choice(PLANETS)
+    minute = chance.randint(*x.INTERVALS[table or x.DEFAULT_TABLE])
+    make = chance.choice(SEARCHES)
+    start, step, count = make(chance, table or x.DEFAULT_TABLE, body, minute)
+    search = Search(some_form(chance, start), table, step, count, body)
+    return search if chance.randrange(6) else spoiled(chance, search)
+
+
+def spoiled(chance, search):
+    """The search with one part such as the call refuses, or seldom takes."""
+    new = {"start": chance.choice((*NOT_FINITE, some_date(chance, 3 - table_of(search)))),
+           "table": some_other_table(chance),
+           "step": chance.choice((*STEPS_TRIED, some_i64(chance))),
+           "count": chance.choice((*COUNTS_TRIED, some_i64(chance))),
+           "body": chance.choice((*BODIES_TRIED, some_i64(chance)))}
+    part = chance.choice(Search._fields)
+    return search._replace(**{part: new[part]})
+
+
+def other_counts(chance, search, place):
+    """A search with a hit again: up to the hit, to the date before it, and further."""
+    further = (chance.randint(place, x.MOST_DATES), x.MOST_DATES)
+    return (search._replace(count=count) for count in (place, place - 1, *further))

@@ -5,9 +5,10 @@
 
 LIB is the shared library; WHAT is one of sines, solver, dates, elements,
 places, turns, rtn, rows, sheets, roundtrip, tables_elements, tables_places,
-tables_turns, or all.  COUNT is the number of cases (rtn: that many there and
-that many back; tables_...: that many for each table, beside the edges), SEED
-the start of chance.
+tables_turns, viewing, or all.  COUNT is the number of cases (rtn: that many
+there and that many back; tables_...: that many for each table, beside the
+edges; viewing: that many searches beside the edges, the hits among them asked
+for again with other counts), SEED the start of chance.
 One line is printed for each comparison, and the first few differences.
 Exit status: 1 if anything differs, else 2 if anything was skipped, else 0.
 """
@@ -16,6 +17,7 @@ import itertools
 import random
 import struct
 import sys
+from collections import Counter
 
 sys.dont_write_bytecode = True      # leave no cache beside the sources
 
@@ -261,6 +263,31 @@ def compare_tables_turns(library, tally, count, chance):
                     x.turn_answer(date, source_frame, target, vector, table))
 
 
+def check_search(tally, plain, by_table, search):
+    """One search by the call that it means; the exact program's answer."""
+    start, table, *asked = search
+    got = plain(start, *asked) if table is None else by_table(start, table, *asked)
+    wanted = x.viewing_answer(start, *asked, cases.table_of(search))
+    tally.check(tuple(search), got, wanted)
+    return wanted
+
+
+def compare_viewing(library, tally, count, chance):
+    """02, Item 3.  Also prints how often each status came up beside the edges."""
+    calls = library.dated("viewing"), library.dated("viewing_by_table")
+    for search in itertools.chain(cases.search_edges(), cases.span_edges()):
+        check_search(tally, *calls, search)
+    statuses = Counter()
+    for _ in range(count):
+        search = cases.some_search(chance)
+        status, _, place = check_search(tally, *calls, search)
+        statuses[status] += 1
+        again = cases.other_counts(chance, search, place) if status == 0 else ()
+        statuses.update(check_search(tally, *calls, other)[0] for other in again)
+    print("viewing: beside the edges", ", ".join(
+        f"status {status} {times} times" for status, times in sorted(statuses.items())))
+
+
 # name: (comparison, its usual number of cases)
 COMPARISONS = {
     "sines": (compare_sines, 200_000),
@@ -276,6 +303,7 @@ COMPARISONS = {
     "tables_elements": (compare_tables_elements, 20_000),
     "tables_places": (compare_tables_places, 20_000),
     "tables_turns": (compare_tables_turns, 20_000),
+    "viewing": (compare_viewing, 1_000),
 }
 
 

@@ -2,10 +2,11 @@
 """Documents 01 and 02 in whole numbers of any size: the exact reference program.
 
 Every definition stands here in document 01's words and order, and what one of
-document 02's items changes names that item.  So far: 02, Item 1.  Only whole
-numbers and fractions are used, except for a Julian date that arrives as a
-double and a place that leaves as doubles.  Sources: 002 (Standish) for the
-elements and steps, 000 (Fraenz and Harper) for the frames, 003 for RTN.
+document 02's items changes names that item.  So far: 02, Items 1 and 3; Item 2
+needs no rule here.  Only whole numbers and fractions are used, except for a
+Julian date that arrives as a double and a place that leaves as doubles.
+Sources: 002 (Standish) for the elements and steps, 000 (Fraenz and Harper) for
+the frames, 003 for RTN.
 
 A date is a Python float (a Julian date) or a Python int (whole minutes).
 A table is 1 or 2, the last argument of a dated call, which may leave it out.
@@ -16,6 +17,7 @@ number.  Every function takes any integers.
     python3 exact.py selftest             document 01's checked examples
 """
 
+import functools
 import math
 import re
 import sys
@@ -638,13 +640,18 @@ def write_row_of_date(date, body, frame, buffer):
     return row[3]
 
 
+def known_step(step):
+    """A sheet's step, and that of a search (02, Item 3: "a step as for sheets")."""
+    return 1 <= step <= 1_000_000
+
+
 def write_sheet(start, step, count, body, frame, buffer):
     """(status, good rows): refusals 10, then 8; rows for start, start + step, ...
 
     A step is whole minutes, so adding it to the start's minute is the exact
     sum.  With a start that is not finite every row has status 1.
     """
-    if not (1 <= step <= 1_000_000 and 0 <= count <= 400):
+    if not (known_step(step) and 0 <= count <= 400):
         return 10, 0
     if len(buffer) < ROW_SIZE * count:
         return 8, 0
@@ -655,6 +662,66 @@ def write_sheet(start, step, count, body, frame, buffer):
         buffer[ROW_SIZE * k:ROW_SIZE * (k + 1)] = row
         good += row[3] == 0
     return 0, good
+
+
+# --------------------------------------------------------------------------
+# Viewing nights (02, Item 3)
+# --------------------------------------------------------------------------
+
+MOST_DATES = 4_000              # of one search
+
+
+@functools.lru_cache(maxsize=2**16)     # a search is often asked again with another count
+def dot_and_cross(minute, body, table):
+    """Of planet and Earth, seen from the Sun in the HAE plane: x and y alone."""
+    planet_x, planet_y, _ = place_in_hae(minute, body, table)
+    earth_x, earth_y, _ = place_in_hae(minute, EARTH, table)
+    return (planet_x * earth_x + planet_y * earth_y,
+            planet_x * earth_y - planet_y * earth_x)
+
+
+def is_viewing_date(dot, cross, before):
+    """A positive dot product, and a cross product that is zero or of the opposite sign.
+
+    before is the cross product of the date before, None on the first date.  A
+    zero has no sign, so nothing is opposite to it.
+    """
+    opposite = before is not None and cross * before < 0
+    return dot > 0 and (cross == 0 or opposite)
+
+
+def viewing_status(start, step, count, body, table):
+    """Refusals 10, 1, 11, 2 and 3, the first that applies.
+
+    2: the span's first or last date is outside.  3: also for body 3.
+    """
+    if not (known_step(step) and 1 <= count <= MOST_DATES):
+        return 10
+    status = date_status(start, table)
+    if status:
+        return status
+    last = minute_of(start) + (count - 1) * step
+    return date_status(last, table) or (3 if body == EARTH or not 1 <= body <= 9 else 0)
+
+
+def viewing_answer(start, step, count, body, table=DEFAULT_TABLE):
+    """(status, minute, dates looked at): the first viewing date of the span.
+
+    The dates are start, start + step, ...; the number looked at is the place of
+    the hit counted from 1.  Refusal 12, no such date in the span, comes last and
+    has looked at all of them.
+    """
+    status = viewing_status(start, step, count, body, table)
+    if status:
+        return status, 0, 0
+    first, before = minute_of(start), None
+    for place in range(1, count + 1):
+        minute = first + (place - 1) * step
+        dot, cross = dot_and_cross(minute, body, table)
+        if is_viewing_date(dot, cross, before):
+            return 0, minute, place
+        before = cross
+    return 12, 0, count
 
 
 # --------------------------------------------------------------------------

@@ -25,6 +25,7 @@ STATUS_AU = struct_of("status", "x y z")
 STATUS_ELEMENTS = struct_of(
     "status a e inclination mean_longitude perihelion node")
 STATUS_GOOD = struct_of("status good")
+STATUS_VIEWING = struct_of("status minutes looked")
 STATUS_ROW = struct_of("status row_status body frame minutes x y z")
 
 
@@ -76,6 +77,9 @@ DATED_CALLS = {
     "counts_by_table": (STATUS_COUNTS, [I64] * 3),
     "place_by_table": (STATUS_AU, [I64] * 3),
     "turn_by_table": (STATUS_COUNTS, [I64] * 6),
+    # 02, Item 3: the date is the span's first
+    "viewing": (STATUS_VIEWING, [I64] * 3),
+    "viewing_by_table": (STATUS_VIEWING, [I64] * 4),
 }
 
 

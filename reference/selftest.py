@@ -7,6 +7,7 @@ import math
 import os
 import random
 import re
+from datetime import datetime, timedelta
 from fractions import Fraction
 
 import exact as x
@@ -195,6 +196,110 @@ def double_checks():
     yield "table_2b of double.c", numbers_in_double("table_2b"), terms
 
 
+# Published almanac moments of Mars's oppositions and Venus's inferior conjunctions,
+# in Universal Time to the hour.  Ephemeris time is 69 seconds ahead of it, which no
+# check below can see.
+ALMANAC = ((4, datetime(2018, 7, 27, 5)), (4, datetime(2020, 10, 13, 23)),
+           (4, datetime(2022, 12, 8, 6)), (4, datetime(2025, 1, 16, 3)),
+           (2, datetime(2020, 6, 3, 18)), (2, datetime(2022, 1, 9, 1)))
+DAY = 1440
+
+
+def minute_of_day(moment):
+    return (moment - datetime(2000, 1, 1, 12)) // timedelta(minutes=1)
+
+
+def almanac_checks():
+    """02, Item 3, beside the almanac: by days within one, by minutes within two hours.
+
+    Of the days' searches one begins 30 days before, and one 440 days before: then
+    the conjunction beyond the Sun comes first, which is no viewing night.
+    """
+    for body, moment in ALMANAC:
+        published = minute_of_day(moment)
+        start = minute_of_day(moment.replace(hour=0)) - 30 * DAY
+        status, minute, looked = x.viewing_answer(start, DAY, 60, body, 1)
+        off = minute - published
+        yield (f"{body} in {moment.year}, off by {off} minutes",
+               (status, abs(off) <= DAY), (0, True))
+        yield f"{body} in {moment.year}, its place", minute, start + (looked - 1) * DAY
+        yield (f"{body} in {moment.year} from beyond the Sun",
+               x.viewing_answer(start - 410 * DAY, DAY, 500, body, 1),
+               (0, minute, looked + 410))
+        for table in (1, 2):
+            status, minute, _ = x.viewing_answer(published - 720, 1, DAY, body, table)
+            off = minute - published
+            yield (f"{body} in {moment.year} by table {table}, off by {off} minutes",
+                   (status, abs(off) <= 120), (0, True))
+
+
+def viewing_rule_examples():
+    """A date's dot product, its cross product and that of the date before, in small."""
+    for dot, cross, before, hit in (
+            (1, 5, -5, True), (1, -5, 5, True), (1, 5, 5, False), (1, -5, -5, False),
+            (1, 0, 5, True), (1, 0, -5, True), (1, 0, 0, True), (1, 5, 0, False),
+            (1, -5, 0, False), (1, 0, None, True), (1, 5, None, False),
+            (1, -5, None, False), (0, 5, -5, False), (0, 0, 5, False),
+            (0, 0, None, False), (-1, 5, -5, False), (-1, 0, 5, False)):
+        yield (f"dot {dot}, cross {cross} after {before}",
+               x.is_viewing_date(dot, cross, before), hit)
+
+
+def viewing_plane_checks(chance):
+    """The Earth beside a planet comes from the same table as the planet.
+
+    A complex product has both sums; Jupiter's are below 2^53, so doubles are exact.
+    """
+    for table in (1, 2):
+        for minute in some_moments(chance, table):
+            _, *planet, _ = x.place_answer(minute, 5, x.HAE, table)
+            _, *earth, _ = x.place_answer(minute, x.EARTH, x.HAE, table)
+            both = complex(*planet).conjugate() * complex(*earth)
+            yield (f"dot and cross at {minute} by table {table}",
+                   x.dot_and_cross(minute, 5, table), (both.real, both.imag))
+
+
+def viewing_count_examples():
+    """Mars in 2018: no count that reaches the hit changes it."""
+    start = minute_of_day(datetime(2018, 6, 27))
+    hit = start + 31 * DAY
+    for count in (32, 33, 60, 4000):
+        yield (f"Mars, {count} dates", x.viewing_answer(start, DAY, count, 4),
+               (0, hit, 32))
+    for count in (1, 2, 31):
+        yield (f"Mars, {count} dates", x.viewing_answer(start, DAY, count, 4),
+               (12, 0, count))
+    yield "Mars, two dates", x.viewing_answer(hit - DAY, DAY, 2, 4), (0, hit, 2)
+    yield "the hit comes first", x.viewing_answer(hit, DAY, 30, 4), (12, 0, 30)
+    yield "the hit alone", x.viewing_answer(hit, DAY, 1, 4), (12, 0, 1)
+    julian = x.EPOCH + start / DAY
+    yield "Mars from a Julian date", x.viewing_answer(julian, DAY, 32, 4), (0, hit, 32)
+
+
+def viewing_refusal_examples():
+    """10, 1, 11, 2, 3 in this order: every case has the later refusals too."""
+    beyond = x.LAST_MINUTE + 1
+    for step, count in ((0, 1), (-1, 1), (1_000_001, 1), (1, 0), (1, -1), (1, 4001)):
+        yield (f"step {step}, count {count}",
+               x.viewing_answer(math.nan, step, count, 3, 3), (10, 0, 0))
+    for start in (math.nan, math.inf, -math.inf):
+        yield f"start {start}", x.viewing_answer(start, 1, 1, 3, 3), (1, 0, 0)
+    for table in (0, 3, -1):
+        yield (f"search by table {table}",
+               x.viewing_answer(beyond, 1, 1, 3, table), (11, 0, 0))
+    for table, (first, last) in x.INTERVALS.items():
+        for start, status in ((first - 1, 2), (first, 3), (last - 29 * DAY, 3),
+                              (last - 29 * DAY + 1, 2), (last, 2)):
+            yield (f"span from {start} by table {table}",
+                   x.viewing_answer(start, DAY, 30, 3, table), (status, 0, 0))
+    yield "no table, its end", x.viewing_answer(beyond - 2, 1, 3, 3), (2, 0, 0)
+    for body in (3, 0, 10, -1, 2**63 - 1, -2**63):
+        yield f"search for body {body}", x.viewing_answer(0, DAY, 4000, body), (3, 0, 0)
+    for step, count in ((1, 4000), (1_000_000, 2)):
+        yield (f"step {step}, count {count} accepted",
+               x.viewing_answer(0, step, count, 3), (3, 0, 0))
+
+
 def rising_checks():
     """F rises: no step of the sine, times the largest e*, reaches 10^9."""
     steps = [-(-(b - a) // x.TABLE_STEP) for a, b in zip(x.TABLE, x.TABLE[1:])]
@@ -237,7 +342,10 @@ def main():
               *solver_examples(), *frame_examples(), *row_examples(),
               *rising_checks(), *sine_checks(chance), *solver_checks(chance),
               *table_examples(), *plain_mean_checks(chance),
-              *extra_term_checks(chance), *edition_checks(), *double_checks()]
+              *extra_term_checks(chance), *edition_checks(), *double_checks(),
+              *almanac_checks(), *viewing_rule_examples(),
+              *viewing_plane_checks(chance), *viewing_count_examples(),
+              *viewing_refusal_examples()]
     wrong = [(what, got, wanted) for what, got, wanted in checks if got != wanted]
     for what, got, wanted in wrong:
         print(f"selftest: {what}: got {got}, wanted {wanted}")

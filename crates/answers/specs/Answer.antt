@@ -2,6 +2,7 @@
 use mathlib.Core.Bool.{cond}
 use mathlib.Core.Logic.{_⊎_}
 use mathlib.Core.Path.{_≡_}
+use Prim.Native.Nat.{ℕ}
 use lib.IntN.{ℤ, pos}
 use Rattle.integers.specs.Sign.{same}
 use Rattle.angles.specs.Unit.{hundredMillionths}
@@ -20,11 +21,14 @@ use Rattle.projector.specs.declared.PlaceInAu.{PlaceInAu}
 use Rattle.places.specs.declared.PlaceAnswer.{PlaceAnswer}
 use Rattle.places.specs.declared.AuAnswer.{AuAnswer}
 use Rattle.places.specs.Answer.{placeStatus, placeCoordinates, auStatus, auPlace}
+use Rattle.viewing.specs.declared.ViewingAnswer.{ViewingAnswer}
+use Rattle.viewing.specs.Viewing.{viewingStatus, viewingMinute, viewingLooked}
 use Rattle.answers.specs.declared.CDate.{CDate}
 use Rattle.answers.specs.declared.CAngle.{CAngle}
 use Rattle.answers.specs.declared.CElements.{CElements}
 use Rattle.answers.specs.declared.CVector.{CVector}
 use Rattle.answers.specs.declared.CPlace.{CPlace}
+use Rattle.answers.specs.declared.CViewing.{CViewing}
 
 -- form 0: the Julian date; any other form: the minutes
 abbrev pub dateOf : CDate → Date
@@ -70,3 +74,10 @@ threeDoubles s p = record { status = s; x = p .x; y = p .y; z = p .z }
 
 abbrev pub cPlace : AuAnswer → CPlace
 cPlace a = threeDoubles (auStatus a) (auPlace a)
+
+-- a search's answer
+abbrev pub searched : ℤ → ℤ → ℕ → CViewing
+searched s minutes looked = record { status = s; minutes = minutes; looked = looked }
+
+abbrev pub cViewing : ViewingAnswer → CViewing
+cViewing a = searched (viewingStatus a) (viewingMinute a) (viewingLooked a)

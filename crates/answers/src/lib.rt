@@ -2,7 +2,7 @@
 ghost use mathlib.Core.Path.{_≡_};
 ghost use lib.IntN.{pos};
 ghost use Rattle.rows.specs.Answer.{writtenStatus};
-ghost use Rattle.answers.specs.Answer.{dateOf, cAngle, sixElements, cElements, threeCounts, cCounts, cVector, threeDoubles, cPlace};
+ghost use Rattle.answers.specs.Answer.{dateOf, cAngle, sixElements, cElements, threeCounts, cCounts, cVector, threeDoubles, cPlace, searched, cViewing};
 ghost use Rattle.answers.specs.Lent.{rowFields, cRow, cSheet};
 use dates::Date;
 use frames::Coordinates;
@@ -17,6 +17,7 @@ use rows::ReadAnswer;
 use rows::Row;
 use rows::Written;
 use sheets::SheetAnswer;
+use viewing::ViewingAnswer;
 
 // A date. Form 0 is the Julian date; any other form is the minutes, and the member that is not meant is not looked at.
 #[repr(C)]
@@ -81,6 +82,14 @@ pub struct CRow {
 pub struct CSheet {
     pub status: i64,
     pub good: usize,
+}
+
+// A status number, the minute of the hit, zero where the status is not, and how many dates were looked at.
+#[repr(C)]
+pub struct CViewing {
+    pub status: i64,
+    pub minutes: i64,
+    pub looked: usize,
 }
 
 pub fn date_of(date: CDate) -> Date
@@ -244,5 +253,24 @@ pub fn sheet_of(answer: SheetAnswer) -> CSheet
     CSheet {
         status: answer.status,
         good: answer.good,
+    }
+}
+
+fn searched(status: i64, minutes: i64, looked: usize) -> CViewing
+    ensures { λ r. ⌜ r ≡ searched status minutes looked ⌝ }
+{
+    CViewing {
+        status,
+        minutes,
+        looked,
+    }
+}
+
+pub fn viewing_of(answer: ViewingAnswer) -> CViewing
+    ensures { λ r. ⌜ r ≡ cViewing answer ⌝ }
+{
+    match answer {
+        ViewingAnswer::Found(minutes, looked) => searched(0, minutes, looked),
+        ViewingAnswer::Refused(r, looked) => searched(refusals::number(r), 0, looked),
     }
 }

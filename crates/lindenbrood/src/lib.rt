@@ -12,7 +12,8 @@ ghost use Rattle.places.specs.Answer.{placeAnswer, turnAnswer, auAnswer};
 ghost use Rattle.rows.specs.Answer.{readOf, written};
 ghost use Rattle.sheets.specs.Row.{rowWritten};
 ghost use Rattle.sheets.specs.Sheet.{sheetWritten};
-ghost use Rattle.answers.specs.Answer.{dateOf, cAngle, IsSolved, cElements, cCounts, cVector, cPlace};
+ghost use Rattle.viewing.specs.Viewing.{viewingAnswer};
+ghost use Rattle.answers.specs.Answer.{dateOf, cAngle, IsSolved, cElements, cCounts, cVector, cPlace, cViewing};
 ghost use Rattle.answers.specs.Lent.{cRow, rowOfFields, writtenNumber, sheetNumber};
 use angles::Angle;
 use angles::Element;
@@ -23,6 +24,7 @@ use answers::CPlace;
 use answers::CRow;
 use answers::CSheet;
 use answers::CVector;
+use answers::CViewing;
 use rows::Row;
 use tables::DEFAULT_TABLE;
 
@@ -244,4 +246,26 @@ pub extern "C" fn lindenbrood_sheet(
     ensures { λ r. ⌜ (r, now (bytes .exit)) ≡ sheetNumber (sheetWritten (dateOf start) step count body frame (now (bytes .entry))) ⌝ }
 {
     answers::sheet_of(sheets::sheet(answers::date_of(start), step, count, body, frame, bytes))
+}
+
+// The next opposition or inferior conjunction of a body among the dates of a walk, by a table.
+#[no_mangle]
+pub extern "C" fn lindenbrood_viewing_by_table(
+    start: CDate,
+    table: i64,
+    step: i64,
+    count: i64,
+    body: i64,
+) -> CViewing
+    ensures { λ r. ⌜ r ≡ cViewing (viewingAnswer (dateOf start) table step count body) ⌝ }
+{
+    answers::viewing_of(viewing::viewing(answers::date_of(start), table, step, count, body))
+}
+
+// The same by the table of a call that names none; beside a whole walk the few ns of one call more do not count.
+#[no_mangle]
+pub extern "C" fn lindenbrood_viewing(start: CDate, step: i64, count: i64, body: i64) -> CViewing
+    ensures { λ r. ⌜ r ≡ cViewing (viewingAnswer (dateOf start) defaultTable step count body) ⌝ }
+{
+    lindenbrood_viewing_by_table(start, DEFAULT_TABLE, step, count, body)
 }

@@ -9,11 +9,11 @@ use lib.ListN.{getD}
 use Rattle.integers.specs.Range.{FromTo, isFromTo}
 use Rattle.integers.proofs.Ranges.{of-test}
 use Rattle.refusals.specs.declared.Refusal.{Refusal}
-use Rattle.refusals.specs.declared.Refusal.the-variants.{NotFinite, OutsideInterval, NoSuchBody, NoSuchFrame, TooFar, NoDirection, NoEllipse, ShortBuffer, NoRow, BadCount, NoSuchTable}
+use Rattle.refusals.specs.declared.Refusal.the-variants.{NotFinite, OutsideInterval, NoSuchBody, NoSuchFrame, TooFar, NoDirection, NoEllipse, ShortBuffer, NoRow, BadCount, NoSuchTable, NoSuchDate}
 use Rattle.refusals.specs.Number.{numberOf}
 
 abbrev all : List Refusal
-all = NotFinite ∷ OutsideInterval ∷ NoSuchBody ∷ NoSuchFrame ∷ TooFar ∷ NoDirection ∷ NoEllipse ∷ ShortBuffer ∷ NoRow ∷ BadCount ∷ NoSuchTable ∷ []
+all = NotFinite ∷ OutsideInterval ∷ NoSuchBody ∷ NoSuchFrame ∷ TooFar ∷ NoDirection ∷ NoEllipse ∷ ShortBuffer ∷ NoRow ∷ BadCount ∷ NoSuchTable ∷ NoSuchDate ∷ []
 
 abbrev withNumber : ℤ → Refusal
 withNumber n = getD all (natAbs n - 1) NotFinite
@@ -30,6 +30,7 @@ numbered ShortBuffer = (tt, refl)
 numbered NoRow = (tt, refl)
 numbered BadCount = (tt, refl)
 numbered NoSuchTable = (tt, refl)
+numbered NoSuchDate = (tt, refl)
 
 pub number-is : (r : Refusal) → FromTo (pos 1) (pos 255) (numberOf r)
 number-is r = of-test (pos 1) (pos 255) (numberOf r) (numbered r .0)

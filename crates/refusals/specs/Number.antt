@@ -1,7 +1,7 @@
--- Document 01, "Numbered refusals", and document 02, Item 1: the number of each.
+-- Document 01, "Numbered refusals", and document 02, Items 1 and 3: the number of each.
 use lib.IntN.{ℤ, pos}
 use Rattle.refusals.specs.declared.Refusal.{Refusal}
-use Rattle.refusals.specs.declared.Refusal.the-variants.{NotFinite, OutsideInterval, NoSuchBody, NoSuchFrame, TooFar, NoDirection, NoEllipse, ShortBuffer, NoRow, BadCount, NoSuchTable}
+use Rattle.refusals.specs.declared.Refusal.the-variants.{NotFinite, OutsideInterval, NoSuchBody, NoSuchFrame, TooFar, NoDirection, NoEllipse, ShortBuffer, NoRow, BadCount, NoSuchTable, NoSuchDate}
 
 abbrev pub numberOf : Refusal → ℤ
 numberOf NotFinite = pos 1
@@ -15,3 +15,4 @@ numberOf ShortBuffer = pos 8
 numberOf NoRow = pos 9
 numberOf BadCount = pos 10
 numberOf NoSuchTable = pos 11
+numberOf NoSuchDate = pos 12

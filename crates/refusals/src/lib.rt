@@ -7,7 +7,7 @@ pub enum Refusal {
     NotFinite,
     // 2: minutes outside the interval of the table named.
     OutsideInterval,
-    // 3: a body that is not 1 to 9.
+    // 3: a body that is not 1 to 9; in a search body 3 too.
     NoSuchBody,
     // 4: a frame that is not 1 to 5.
     NoSuchFrame,
@@ -25,6 +25,8 @@ pub enum Refusal {
     BadCount,
     // 11: a table that is not 1 or 2.
     NoSuchTable,
+    // 12: a search with no such date in its span.
+    NoSuchDate,
 }
 
 // The refusal's number.
@@ -43,5 +45,6 @@ pub fn number(refusal: Refusal) -> i64
         Refusal::NoRow => 9,
         Refusal::BadCount => 10,
         Refusal::NoSuchTable => 11,
+        Refusal::NoSuchDate => 12,
     }
 }

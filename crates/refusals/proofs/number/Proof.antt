@@ -1,5 +1,5 @@
 -- `number` gives each refusal its number: in each arm the refusal is that arm's case, and `numberOf` of the case is the result.
--- Eleven answers of one form, since each arm has its own name for what its match told.
+-- Twelve answers of one form, since each arm has its own name for what its match told.
 use borrow.Author.Needs.{needs}
 use mathlib.Core.Path.{sym, ap}
 use Rattle.refusals.specs.Number.{numberOf}
@@ -21,6 +21,7 @@ number-spec =
     (λ c. search needs)
     (λ c. search needs)
     (λ c. search needs)
+    (λ c. search needs)
     (λ c. sym (ap numberOf (c .enum-told .given .1)))
     (λ c. sym (ap numberOf (c .enum-told2 .given .1)))
     (λ c. sym (ap numberOf (c .enum-told3 .given .1)))
@@ -31,4 +32,5 @@ number-spec =
     (λ c. sym (ap numberOf (c .enum-told8 .given .1)))
     (λ c. sym (ap numberOf (c .enum-told9 .given .1)))
     (λ c. sym (ap numberOf (c .enum-told10 .given .1)))
-    (λ c. sym (ap numberOf (c .enum-told11 .given .1))))
+    (λ c. sym (ap numberOf (c .enum-told11 .given .1)))
+    (λ c. sym (ap numberOf (c .enum-told12 .given .1))))
