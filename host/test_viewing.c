@@ -131,8 +131,8 @@ static answer ask(const search *s)
     return got;
 }
 
-/* Events that have been seen, to the hour: days from 1 January 2000, and the hour,
- * UT.  Ephemeris time is a minute later. */
+/* Events that have been seen: days from 1 January 2000, and the hour, UT, which
+ * eraPlan94 confirms (reference/README.md).  Ephemeris time is a minute later. */
 static const struct {
     int64_t body, day, hour;
 } events[] = {
@@ -151,7 +151,7 @@ static int64_t minute_of_event(size_t i)
     return events[i].day * DAY + events[i].hour * 60 - DAY / 2 + 1;
 }
 
-/* A date found, at most a step after the event.  Table 1 and a published moment may
+/* A date found, at most a step after the event.  Table 1 and the event's hour may
  * differ by some hours. */
 static bool is_near(int64_t found, size_t i, int64_t step)
 {

@@ -5,12 +5,13 @@
     python3 distance.py --true-sine [DATES]        the same without 01's sine table
     python3 distance.py --picture FILE.svg         the first as a picture over the years
     python3 distance.py --plan94 [DATES]           beside ERFA's eraPlan94 (plan94.c)
+    python3 distance.py --nights                   six viewing nights beside eraPlan94's
     python3 distance.py --lengths [DATES]          the least L of HEE's and HEEQ's vectors
     python3 distance.py --between-tables [DATES]   table 1 beside table 2, per body
     python3 distance.py --picture-tables FILE.svg  the same as a picture over the years
 
 Those without a picture that work with one table take --table 2 too.  The C
-sources are built with cc into a temporary folder; --plan94 needs Debian's
+sources are built with cc into a temporary folder; --plan94 and --nights need Debian's
 liberfa-dev.  The dates are spread over the table's whole interval, and over table
 1's, which lies within table 2's, where both are asked: both ends, and one at
 random in each of DATES equal parts.
@@ -29,6 +30,7 @@ sys.dont_write_bytecode = True      # leave no cache beside the sources
 
 import exact
 import picture
+import selftest
 
 HERE = os.path.dirname(os.path.abspath(__file__))
 ARC_SECONDS = 3600 * 180 / math.pi
@@ -143,6 +145,33 @@ def report_plan94(count, table):
             print(f"{name:8} {apart:10.0f} {angle:11.1f}")
 
 
+def plan94_night(place, body, minute):
+    """02, Item 3's rule on eraPlan94's places, by minutes from half a day before."""
+    before = None
+    for date in range(minute - selftest.DAY // 2, minute + selftest.DAY // 2):
+        (px, py, _), (ex, ey, _) = place(date, body), place(date, exact.EARTH)
+        cross = px * ey - py * ex
+        if exact.is_viewing_date(px * ex + py * ey, cross, before):
+            return date
+        before = cross
+    return None
+
+
+def report_nights():
+    """Minutes after the hour that selftest.py has, of eraPlan94 and of both tables."""
+    with tempfile.TemporaryDirectory() as folder:
+        place = place_function(build(folder, "plan94", "-lerfa"), "plan94_place")
+        print("hour (UT)          body   eraPlan94  table 1  table 2")
+        for body, moment in selftest.NIGHTS:
+            known = selftest.minute_of_day(moment)
+            start = known - selftest.DAY // 2
+            found = [exact.viewing_answer(start, 1, selftest.DAY, body, table)[1]
+                     for table in (1, 2)]
+            late = [night - known for night in (plan94_night(place, body, known), *found)]
+            print(f"{moment:%Y-%m-%d %H} h    {exact.NAMES[body - 1]:8}"
+                  f"{late[0]:+8d} {late[1]:+8d} {late[2]:+8d}")
+
+
 def report_between_tables(count):
     minutes = spread_minutes(count)
     print(f"greatest distances over {len(minutes)} dates, table 1 beside table 2")
@@ -196,12 +225,13 @@ def arguments():
     kind.add_argument("--picture", metavar="FILE.svg")
     kind.add_argument("--true-sine", action="store_true")
     kind.add_argument("--plan94", action="store_true")
+    kind.add_argument("--nights", action="store_true")
     kind.add_argument("--lengths", action="store_true")
     kind.add_argument("--between-tables", action="store_true")
     kind.add_argument("--picture-tables", metavar="FILE.svg")
     chosen = parser.parse_args()
     if chosen.table == 2 and (chosen.picture or chosen.between_tables
-                              or chosen.picture_tables):
+                              or chosen.picture_tables or chosen.nights):
         parser.error("no --table beside this one")
     return chosen
 
@@ -213,6 +243,8 @@ def main():
         draw(chosen.picture, dates)
     elif chosen.plan94:
         report_plan94(chosen.dates or 500, chosen.table)
+    elif chosen.nights:
+        report_nights()
     elif chosen.lengths:
         report_lengths(dates, chosen.table)
     elif chosen.between_tables:

@@ -196,12 +196,13 @@ def double_checks():
     yield "table_2b of double.c", numbers_in_double("table_2b"), terms
 
 
-# Published almanac moments of Mars's oppositions and Venus's inferior conjunctions,
-# in Universal Time to the hour.  Ephemeris time is 69 seconds ahead of it, which no
-# check below can see.
-ALMANAC = ((4, datetime(2018, 7, 27, 5)), (4, datetime(2020, 10, 13, 23)),
-           (4, datetime(2022, 12, 8, 6)), (4, datetime(2025, 1, 16, 3)),
-           (2, datetime(2020, 6, 3, 18)), (2, datetime(2022, 1, 9, 1)))
+# Mars's oppositions and Venus's inferior conjunctions, in Universal Time to the hour.
+# The days came with the request; the hours are in no document here, and rest on
+# eraPlan94 (distance.py --nights).  Ephemeris time is 69 seconds ahead of Universal
+# Time, which no check below can see.
+NIGHTS = ((4, datetime(2018, 7, 27, 5)), (4, datetime(2020, 10, 13, 23)),
+          (4, datetime(2022, 12, 8, 6)), (4, datetime(2025, 1, 16, 3)),
+          (2, datetime(2020, 6, 3, 18)), (2, datetime(2022, 1, 9, 1)))
 DAY = 1440
 
 
@@ -209,17 +210,17 @@ def minute_of_day(moment):
     return (moment - datetime(2000, 1, 1, 12)) // timedelta(minutes=1)
 
 
-def almanac_checks():
-    """02, Item 3, beside the almanac: by days within one, by minutes within two hours.
+def night_checks():
+    """02, Item 3, beside those nights: by days within one, by minutes within two hours.
 
     Of the days' searches one begins 30 days before, and one 440 days before: then
     the conjunction beyond the Sun comes first, which is no viewing night.
     """
-    for body, moment in ALMANAC:
-        published = minute_of_day(moment)
+    for body, moment in NIGHTS:
+        known = minute_of_day(moment)
         start = minute_of_day(moment.replace(hour=0)) - 30 * DAY
         status, minute, looked = x.viewing_answer(start, DAY, 60, body, 1)
-        off = minute - published
+        off = minute - known
         yield (f"{body} in {moment.year}, off by {off} minutes",
                (status, abs(off) <= DAY), (0, True))
         yield f"{body} in {moment.year}, its place", minute, start + (looked - 1) * DAY
@@ -227,8 +228,8 @@ def almanac_checks():
                x.viewing_answer(start - 410 * DAY, DAY, 500, body, 1),
                (0, minute, looked + 410))
         for table in (1, 2):
-            status, minute, _ = x.viewing_answer(published - 720, 1, DAY, body, table)
-            off = minute - published
+            status, minute, _ = x.viewing_answer(known - 720, 1, DAY, body, table)
+            off = minute - known
             yield (f"{body} in {moment.year} by table {table}, off by {off} minutes",
                    (status, abs(off) <= 120), (0, True))
 
@@ -343,7 +344,7 @@ def main():
               *rising_checks(), *sine_checks(chance), *solver_checks(chance),
               *table_examples(), *plain_mean_checks(chance),
               *extra_term_checks(chance), *edition_checks(), *double_checks(),
-              *almanac_checks(), *viewing_rule_examples(),
+              *night_checks(), *viewing_rule_examples(),
               *viewing_plane_checks(chance), *viewing_count_examples(),
               *viewing_refusal_examples()]
     wrong = [(what, got, wanted) for what, got, wanted in checks if got != wanted]
