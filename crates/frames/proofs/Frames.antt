@@ -13,6 +13,7 @@ use Rattle.integers.specs.Sign.{same}
 use Rattle.integers.proofs.Difference.{up, dn, zarith, d-mul, d-add, up-neg, dn-neg}
 use Rattle.integers.proofs.Number.{w-floor-any, w-most}
 use Rattle.integers.proofs.Ring.{abs-neg}
+use Rattle.integers.proofs.Ends.{endRest}
 use Rattle.integers.specs.Triple.{at, PartsWithin}
 use Rattle.integers.proofs.Triples.{parts-more}
 use Rattle.vectors.specs.Vector.{dotOf, applied, wayOf, squaresOf, lengthOf, overLength, unitOf, crossOf}
@@ -182,8 +183,9 @@ module _ (earth : List ℤ) where
   pub hae-turn-fits : (back : Bool) (f : ℤ) (v : List ℤ) → HasRows f → EarthFits f earth → NoLonger 1732052000 v → TurnFits (wayOf back (rotationOf f earth)) v
   hae-turn-fits back f v h e l = turn-fits 1000001000000000000 (rotationOf f earth) (rotation-stretches f h e) 1732052000 1732054000000000000 v l tt tt back
 
-  -- a turn makes a vector longer by half a millionth and 2 counts at most: from n to j, where 1.000001 n² is at most k² and k + 2 at most j
-  pub hae-turned-long : (back : Bool) (f : ℤ) (n k j : ℕ) (v : List ℤ) → KnownFrame f → EarthFits f earth → NoLonger n v → T (leb (1000001000000000000 * (n * n)) (k * k)) → T (leb (k + 2 * 1000000000) (j * 1000000000)) → T (leb n j) → NoLonger j (haeTurned back f earth v)
+  -- a turn makes a vector longer by half a millionth, and by twice the rest of its divisions, at most: from n to j, where 1.000001 n² is
+  -- at most k², and k and two rests are at most j 10^9
+  pub hae-turned-long : (back : Bool) (f : ℤ) (n k j : ℕ) (v : List ℤ) → KnownFrame f → EarthFits f earth → NoLonger n v → T (leb (1000001000000000000 * (n * n)) (k * k)) → T (leb (k + 2 * endRest) (j * 1000000000)) → T (leb n j) → NoLonger j (haeTurned back f earth v)
   unfolding haeTurned
   hae-turned-long back f n k j v h e l t r s = go (same f (pos 1)) (λ b. past-hae f h (λ q. subst T (ap (λ (x : ℤ). same x (pos 1)) (sym q) ∙ b) tt))
     where
@@ -192,7 +194,7 @@ module _ (earth : List ℤ) where
       go false g = turned-long 1000001000000000000 (rotationOf f earth) (rotation-stretches f (g refl) e) n k v l t back j r
 
   -- ---- between two frames: what has parts within n is no longer than j, by way of a vector of HAE no longer than i
-  pub between-long : (f g : ℤ) (a n k i l j : ℕ) (v : List ℤ) → KnownFrame f → KnownFrame g → EarthFits f earth → EarthFits g earth → PartsWithin a v → T (leb (3 * (a * a)) (n * n)) → T (leb (1000001000000000000 * (n * n)) (k * k)) → T (leb (k + 2 * 1000000000) (i * 1000000000)) → T (leb n i) → T (leb (1000001000000000000 * (i * i)) (l * l)) → T (leb (l + 2 * 1000000000) (j * 1000000000)) → T (leb i j) → NoLonger j (turnedBetween f g earth v)
+  pub between-long : (f g : ℤ) (a n k i l j : ℕ) (v : List ℤ) → KnownFrame f → KnownFrame g → EarthFits f earth → EarthFits g earth → PartsWithin a v → T (leb (3 * (a * a)) (n * n)) → T (leb (1000001000000000000 * (n * n)) (k * k)) → T (leb (k + 2 * endRest) (i * 1000000000)) → T (leb n i) → T (leb (1000001000000000000 * (i * i)) (l * l)) → T (leb (l + 2 * endRest) (j * 1000000000)) → T (leb i j) → NoLonger j (turnedBetween f g earth v)
   unfolding turnedBetween
   between-long f g a n k i l j v hf hg ef eg p t1 t2 t3 t4 t5 t6 t7 = go (same f g)
     where

@@ -24,7 +24,11 @@ floor-ends z g =
     record { off = abs-d (q *ℤ pos (suc g) -ℤ z) (suc g) (omega (arith, d-minus (q *ℤ pos (suc g)) z, d-mul q (pos (suc g)), floor-low z g, floor-high z g)) }
 
 -- ---- the division that ends a turn: what it rounds to, and its bound
-pub end-turn-ends : (z : ℤ) → Ends 1000000000 1000000000 (endTurn z) z
+-- how far 10^9 times an end may be from what was divided: everything that goes by the rounding of a turn names this number
+abbrev pub endRest : ℕ
+endRest = 1000000000
+
+pub end-turn-ends : (z : ℤ) → Ends 1000000000 endRest (endTurn z) z
 unfolding endTurn
 end-turn-ends z = floor-ends z 999999999
 

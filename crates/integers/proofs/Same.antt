@@ -10,7 +10,7 @@ use lib.Signed.{ltZ, _≤ℤ_, _<ℤ_, clashℤ}
 use mir.Syntax.{w64}
 use mir.Val.{SFits, ofZ}
 use borrow.Author.Tests.{eq-eqb, ne-eqb}
-use Rattle.integers.specs.Sign.{same, opposite}
+use Rattle.integers.specs.Sign.{same, oppositeSigns}
 use Rattle.integers.proofs.Difference.{zarith, d-mul}
 use Rattle.integers.proofs.Table.{yes, no}
 use Rattle.integers.proofs.Cast.{same-bits, pos-fits}
@@ -74,11 +74,11 @@ at-least-1 : (a b : ℕ) → 1 ≤ suc a * suc b
 at-least-1 a b = omega arith
 
 -- by the outcomes of the four tests, and of that of the product
-by-signs : (a b : ℤ) {p q r s x : Bool} → ltZ a (pos 0) ≡ p → ltZ (pos 0) b ≡ q → ltZ (pos 0) a ≡ r → ltZ b (pos 0) ≡ s → opposite a b ≡ x → (p && q) || (r && s) ≡ x
-    → (ltZ a (pos 0) && ltZ (pos 0) b) || (ltZ (pos 0) a && ltZ b (pos 0)) ≡ opposite a b
+by-signs : (a b : ℤ) {p q r s x : Bool} → ltZ a (pos 0) ≡ p → ltZ (pos 0) b ≡ q → ltZ (pos 0) a ≡ r → ltZ b (pos 0) ≡ s → oppositeSigns a b ≡ x → (p && q) || (r && s) ≡ x
+    → (ltZ a (pos 0) && ltZ (pos 0) b) || (ltZ (pos 0) a && ltZ b (pos 0)) ≡ oppositeSigns a b
 by-signs a b e f g h k t = (λ i. (e i && f i) || (g i && h i)) ∙ t ∙ sym k
 
-pub signs-tell : (a b : ℤ) → (ltZ a (pos 0) && ltZ (pos 0) b) || (ltZ (pos 0) a && ltZ b (pos 0)) ≡ opposite a b
+pub signs-tell : (a b : ℤ) → (ltZ a (pos 0) && ltZ (pos 0) b) || (ltZ (pos 0) a && ltZ b (pos 0)) ≡ oppositeSigns a b
 signs-tell (pos zero) b = sym (no-less (pos zero *ℤ b) (pos 0) (omega (zarith, d-mul (pos zero) b)))
 signs-tell (pos (suc a)) (pos b) =
     by-signs (pos (suc a)) (pos b) (no-less (pos (suc a)) (pos 0) (omega zarith)) refl (is-less (pos 0) (pos (suc a)) (omega zarith)) (no-less (pos b) (pos 0) (omega zarith))
@@ -92,5 +92,5 @@ signs-tell (negsuc a) (pos (suc b)) =
     (is-less (negsuc a *ℤ pos (suc b)) (pos 0) (omega (zarith, d-mul (negsuc a) (pos (suc b)), at-least-1 a b))) refl
 signs-tell (negsuc a) (negsuc b) = sym (no-less (negsuc a *ℤ negsuc b) (pos 0) (omega (zarith, d-mul (negsuc a) (negsuc b))))
 
-pub zero-opposite : (a : ℤ) → opposite a (pos 0) ≡ false
+pub zero-opposite : (a : ℤ) → oppositeSigns a (pos 0) ≡ false
 zero-opposite a = no-less (a *ℤ pos 0) (pos 0) (omega (zarith, d-mul a (pos 0)))

@@ -18,5 +18,5 @@ same (negsuc a) (pos b) = false
 same (negsuc a) (negsuc b) = eqb a b
 
 -- a and b have opposite signs: their product is below 0, so that 0 is opposite to nothing
-abbrev pub opposite : ℤ → ℤ → Bool
-opposite a b = ltZ (a *ℤ b) (pos 0)
+abbrev pub oppositeSigns : ℤ → ℤ → Bool
+oppositeSigns a b = ltZ (a *ℤ b) (pos 0)

@@ -7,7 +7,7 @@ ghost use lib.Signed.{_<ℤ_};
 ghost use Rattle.integers.specs.Range.{isFromTo, ProductFits, SplitFits};
 ghost use Rattle.integers.specs.Floor.{floorDiv, floorMod, unitProduct, endTurn};
 ghost use Rattle.integers.specs.Root.{IsRoot, rootOf};
-ghost use Rattle.integers.specs.Sign.{signed, same, opposite};
+ghost use Rattle.integers.specs.Sign.{signed, same, oppositeSigns};
 ghost use mir.Syntax.{w64};
 ghost use mir.Val.{ofZ, toZ};
 
@@ -42,8 +42,8 @@ pub fn are_same(a: i64, b: i64) -> bool
 }
 
 // Whether two numbers have opposite signs. Their product may be past 64 bits, and is not formed.
-pub fn are_opposite(a: i64, b: i64) -> bool
-    ensures { λ r. ⌜ r ≡ opposite a b ⌝ }
+pub fn opposite_signs(a: i64, b: i64) -> bool
+    ensures { λ r. ⌜ r ≡ oppositeSigns a b ⌝ }
 {
     ((a < 0) & (0 < b)) | ((0 < a) & (b < 0))
 }

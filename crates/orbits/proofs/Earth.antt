@@ -17,7 +17,7 @@ use Rattle.integers.specs.Floor.{unitProduct, endTurn}
 use Rattle.integers.proofs.Difference.{zarith, up-neg, dn-neg, d-add, d-minus, d-abs, abs-d}
 use Rattle.integers.proofs.Ring.{ring, minus-plus, neg-mul, *ℤ-distrib-l, abs-add-le, abs-mul-le}
 use Rattle.integers.proofs.Squares.{near-long, turn-squares}
-use Rattle.integers.proofs.Ends.{floor-ends, end-turn-ends, end-turn-within, abs-more, ends-least, ends-add, ends-neg, times-apart}
+use Rattle.integers.proofs.Ends.{endRest, floor-ends, end-turn-ends, end-turn-within, abs-more, ends-least, ends-add, ends-neg, times-apart}
 use Rattle.integers.proofs.Ranges.{of-test, range-within}
 use Rattle.integers.proofs.Number.{w-mul, w-add, w-floor}
 use Rattle.angles.specs.Unit.{hundredMillionths}
@@ -116,7 +116,7 @@ off-turn s c u w x y d k hu hw hx hy =
     taken p e q f = omega (zarith, d-add p e, d-minus q p)
 
 -- the coordinate that it ends in
-coordinate-near : (s c u w x y : ℤ) (d k : ℕ) → natAbs (u -ℤ s) ≤ d → natAbs (w -ℤ c) ≤ d → Within k x → Within k y → natAbs (s *ℤ x +ℤ c *ℤ y) ≤ natAbs (endTurn (u *ℤ x +ℤ w *ℤ y)) * 1000000000 + (1000000000 + d * (k + k))
+coordinate-near : (s c u w x y : ℤ) (d k : ℕ) → natAbs (u -ℤ s) ≤ d → natAbs (w -ℤ c) ≤ d → Within k x → Within k y → natAbs (s *ℤ x +ℤ c *ℤ y) ≤ natAbs (endTurn (u *ℤ x +ℤ w *ℤ y)) * 1000000000 + (endRest + d * (k + k))
 coordinate-near s c u w x y d k hu hw hx hy =
     let q = u *ℤ x +ℤ w *ℤ y in
     omega (arith, ends-least (endTurn q) q (end-turn-ends q), off-turn s c u w x y d k hu hw hx hy)
@@ -164,7 +164,7 @@ module _ (ω Ω I x y : ℤ) (h : Within 670000 I) (hx : Within 10200000 x) (hy 
       let v = eclipticOf (coefficientsOf ω Ω I) x y in
       record {
         away =
-            turned-away (natAbs s) (natAbs c) (natAbs x) (natAbs y) (natAbs (c *ℤ x +ℤ negℤ s *ℤ y)) (natAbs (s *ℤ x +ℤ c *ℤ y)) (natAbs (at v 0)) (natAbs (at v 1)) 246025020400000
+            turned-away (natAbs s) (natAbs c) (natAbs x) (natAbs y) (natAbs (c *ℤ x +ℤ negℤ s *ℤ y)) (natAbs (s *ℤ x +ℤ c *ℤ y)) (natAbs (at v 0)) (natAbs (at v 1)) (endRest + 12060001 * (10200000 + 10200000))
             (sum-unit sω cω sΩ cΩ (squares ω) (squares Ω)) far (turn-squares s c x y)
             (coordinate-near c (negℤ s) (cc -ℤ tilt ss) (negℤ sc -ℤ tilt cs) x y 12060001 10200000 px (rw (minus-sine sω cω sΩ cΩ) at qx) hx hy)
             (coordinate-near s c (cs +ℤ tilt sc) (negℤ ss +ℤ tilt cc) x y 12060001 10200000 py (rw (cosine-turned sω cω sΩ cΩ) at qy) hx hy)

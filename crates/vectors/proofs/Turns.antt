@@ -1,4 +1,4 @@
--- How long a vector is after a turn: no longer than the root of the stretch times its length, and 2 more for the divisions; and
+-- How long a vector is after a turn: no longer than the root of the stretch times its length, and a little more for the divisions; and
 -- that the sums of the turn fit 64 bits, by Cauchy. The numbers are tests, answered by `tt`.
 use mathlib.Core.Bool.{Bool}
 use mathlib.Core.List.{List}
@@ -10,14 +10,14 @@ use lib.IntN.{ℤ, natAbs}
 use Rattle.integers.specs.Range.{Within}
 use Rattle.integers.specs.Triple.{at, PartsWithin}
 use Rattle.integers.proofs.Squares.{square-mono, from-squares}
-use Rattle.integers.proofs.Ends.{end-turn-ends, ends-size}
+use Rattle.integers.proofs.Ends.{endRest, end-turn-ends, ends-size}
 use Rattle.vectors.specs.Vector.{dotOf, rowAt, applied, wayOf, squaresOf}
 use Rattle.vectors.specs.Range.{DotFits, TurnFits, NoLonger}
 use Rattle.vectors.proofs.Lengths.{squares-small}
 use Rattle.vectors.proofs.Dots.{sums, sizesOf, cauchy, rounded, EndsAll}
 use Rattle.vectors.proofs.Norms.{Stretches, way, row-small}
 
-pub applied-ends : (m : List (List ℤ)) (v : List ℤ) → EndsAll 1000000000 1000000000 (applied m v) (sums m v)
+pub applied-ends : (m : List (List ℤ)) (v : List ℤ) → EndsAll 1000000000 endRest (applied m v) (sums m v)
 unfolding applied
 applied-ends m v =
     record { first = end-turn-ends (dotOf (rowAt m 0) v); second = end-turn-ends (dotOf (rowAt m 1) v); third = end-turn-ends (dotOf (rowAt m 2) v) }
@@ -56,17 +56,17 @@ module _ (c : ℕ) (m : List (List ℤ)) (s : Stretches c m) (n k : ℕ) (v : Li
       }
 
   -- ---- how long the turned vector is
-  pub turned-long : (back : Bool) (j : ℕ) → T (leb (k + 2 * 1000000000) (j * 1000000000)) → NoLonger j (applied (wayOf back m) v)
+  pub turned-long : (back : Bool) (j : ℕ) → T (leb (k + 2 * endRest) (j * 1000000000)) → NoLonger j (applied (wayOf back m) v)
   turned-long back j f =
       let z = sums (wayOf back m) v in
       let p = applied (wayOf back m) v in
       let e = applied-ends (wayOf back m) v in
       record {
         squares =
-            rounded (natAbs (at z 0)) (natAbs (at z 1)) (natAbs (at z 2)) (natAbs (at p 0)) (natAbs (at p 1)) (natAbs (at p 2)) k 1000000000 j 999999999
+            rounded (natAbs (at z 0)) (natAbs (at z 1)) (natAbs (at z 2)) (natAbs (at p 0)) (natAbs (at p 1)) (natAbs (at p 2)) k endRest j 999999999
             (le-trans (way c m s back v) reach)
             (ends-size (at p 0) (at z 0) (e .first))
             (ends-size (at p 1) (at z 1) (e .second))
             (ends-size (at p 2) (at z 2) (e .third))
-            (leb→le (k + 2 * 1000000000) (j * 1000000000) f);
+            (leb→le (k + 2 * endRest) (j * 1000000000) f);
       }

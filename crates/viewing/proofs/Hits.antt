@@ -4,7 +4,7 @@ use mathlib.Core.Bool.{Bool}
 use mathlib.Core.Path.{_≡_, refl, sym, ap}
 use Prim.Native.Nat.{ℕ, zero, suc}
 use lib.IntN.{ℤ, pos}
-use Rattle.integers.specs.Sign.{opposite}
+use Rattle.integers.specs.Sign.{oppositeSigns}
 use Rattle.integers.proofs.Same.{zero-opposite}
 use Rattle.viewing.specs.Hit.{aspectAt, hitIf, minuteAt, changedAt, isHit}
 
@@ -13,10 +13,10 @@ module _ (table body first step : ℤ) where
   crossBefore zero = pos 0
   crossBefore (suc k) = aspectAt table body (minuteAt first step k) .cross
 
-  changed-by : (k : ℕ) → changedAt table body first step k ≡ opposite (aspectAt table body (minuteAt first step k) .cross) (crossBefore k)
+  changed-by : (k : ℕ) → changedAt table body first step k ≡ oppositeSigns (aspectAt table body (minuteAt first step k) .cross) (crossBefore k)
   changed-by zero = sym (zero-opposite (aspectAt table body (minuteAt first step zero) .cross))
   changed-by (suc k) = refl
 
-  pub hit-by : (k : ℕ) → hitIf (opposite (aspectAt table body (minuteAt first step k) .cross) (crossBefore k)) (aspectAt table body (minuteAt first step k)) ≡ isHit table body first step k
+  pub hit-by : (k : ℕ) → hitIf (oppositeSigns (aspectAt table body (minuteAt first step k) .cross) (crossBefore k)) (aspectAt table body (minuteAt first step k)) ≡ isHit table body first step k
   unfolding isHit
   hit-by k = ap (λ (b : Bool). hitIf b (aspectAt table body (minuteAt first step k))) (sym (changed-by k))

@@ -4,7 +4,7 @@ use mathlib.Core.List.{List}
 use Prim.Native.Nat.{ℕ, zero, suc}
 use lib.IntN.{ℤ, pos, _+ℤ_, _-ℤ_, _*ℤ_}
 use lib.Signed.{ltZ}
-use Rattle.integers.specs.Sign.{same, opposite}
+use Rattle.integers.specs.Sign.{same, oppositeSigns}
 use Rattle.integers.specs.Triple.{at}
 use Rattle.places.specs.Answer.{haeAt, earthAt}
 use Rattle.viewing.specs.declared.Aspect.{Aspect}
@@ -31,7 +31,7 @@ minuteAt first step k = first +ℤ step *ℤ pos k
 -- whether its cross product "has the opposite sign from the date before (the first date has none before it)"
 abbrev pub changedAt : (table body first step : ℤ) → ℕ → Bool
 changedAt table body first step zero = false
-changedAt table body first step (suc k) = opposite (aspectAt table body (minuteAt first step (suc k)) .cross) (aspectAt table body (minuteAt first step k) .cross)
+changedAt table body first step (suc k) = oppositeSigns (aspectAt table body (minuteAt first step (suc k)) .cross) (aspectAt table body (minuteAt first step k) .cross)
 
 -- whether it is a hit
 unfoldable pub isHit : (table body first step : ℤ) → ℕ → Bool

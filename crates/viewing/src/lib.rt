@@ -4,7 +4,7 @@ ghost use mathlib.Core.Path.{_≡_};
 ghost use Prim.Native.Nat.{_≤_};
 ghost use Rattle.integers.specs.First.{firstOf};
 ghost use Rattle.integers.specs.Range.{Within};
-ghost use Rattle.integers.specs.Sign.{opposite};
+ghost use Rattle.integers.specs.Sign.{oppositeSigns};
 ghost use Rattle.integers.specs.Triple.{PartsWithin};
 ghost use Rattle.angles.specs.Sines.{sineEntries};
 ghost use Rattle.tables.specs.Table.{Body, OnTable};
@@ -69,10 +69,10 @@ fn minute_at(first: i64, step: i64, k: usize) -> i64
 
 // Whether a date of this aspect is a hit, after one of this cross product.
 fn is_hit(before: i64, aspect: Aspect) -> bool
-    ensures { λ r. ⌜ r ≡ hitIf (opposite (aspect .cross) before) aspect ⌝ }
+    ensures { λ r. ⌜ r ≡ hitIf (oppositeSigns (aspect .cross) before) aspect ⌝ }
 {
     let cross = aspect.cross;
-    (0 < aspect.dot) & ((cross == 0) | integers::are_opposite(cross, before))
+    (0 < aspect.dot) & ((cross == 0) | integers::opposite_signs(cross, before))
 }
 
 // The place of the first hit, counted from 1, or 0 where there is none. Before the first date stands a cross product of 0, which is

@@ -8,7 +8,7 @@ use lib.IntN.{pos}
 use lib.Signed.{ltZ}
 use mir.Syntax.{w64}
 use mir.Val.{SFits}
-use Rattle.integers.specs.Sign.{opposite}
+use Rattle.integers.specs.Sign.{oppositeSigns}
 use Rattle.integers.proofs.Cast.{read, back, pos-fits}
 use Rattle.integers.proofs.Same.{bits-tell}
 use Rattle.viewing.proofs.is_hit.Statement.{statement}
@@ -26,7 +26,7 @@ returns c =
     let s = c .before .before .before .before in
     let dot = dot-is s in
     let zero = bits-tell (s .args .aspect .cross) (pos 0) (cross-fits s) (pos-fits 0 (omega arith)) in
-    let turned = c .are-opposite .ensures ∙ (λ i. opposite (back (s .args .aspect .cross) (cross-fits s) i) (back (s .args .before) (s .fits .before) i)) in
+    let turned = c .opposite-signs .ensures ∙ (λ i. oppositeSigns (back (s .args .aspect .cross) (cross-fits s) i) (back (s .args .before) (s .fits .before) i)) in
     λ i. ltZ (pos 0) (dot i) && (zero i || turned i)
 
 pub is-hit-spec : {M : Type 1} → statement M

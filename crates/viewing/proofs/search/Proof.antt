@@ -9,7 +9,7 @@ use native.Mathlib.Omega.{arith}
 use mir.Syntax.{w64}
 use mir.Val.{toZ}
 use Rattle.integers.specs.First.{firstOf}
-use Rattle.integers.specs.Sign.{opposite}
+use Rattle.integers.specs.Sign.{oppositeSigns}
 use Rattle.integers.proofs.Cast.{read, back, back-ok}
 use Rattle.integers.proofs.First.{NoneBelow, none-more, is-first, is-none}
 use Rattle.integers.proofs.Number.{w-read}
@@ -80,7 +80,7 @@ told c =
     let at = c .before .before .before .before in
     let s = at .before in
     let a = aspect-is (c .before) in
-    sym (c .is-hit .ensures ∙ (λ j. hitIf (opposite (a j .cross) (at .loop .inv .2 j)) (a j)) ∙ hit-by (read (s .args .table)) (read (s .args .body)) (read (s .args .first)) (read (s .args .step)) (at .loop .i))
+    sym (c .is-hit .ensures ∙ (λ j. hitIf (oppositeSigns (a j .cross) (at .loop .inv .2 j)) (a j)) ∙ hit-by (read (s .args .table)) (read (s .args .body)) (read (s .args .first)) (read (s .args .step)) (at .loop .i))
 
 returns : tie.Need-returns Inv-loop μ-loop
 returns c =
