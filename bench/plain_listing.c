@@ -19,8 +19,8 @@ int main(void)
         double place[3];
 
         double_place((double)minute, (int)body, place);
-        printf("%ld %ld %ld 0 %ld %ld %ld\n", minute, body, frame, (long)floor(place[0] * 1e7),
-               (long)floor(place[1] * 1e7), (long)floor(place[2] * 1e7));
+        printf("%ld %ld %ld 0 %ld %ld %ld\n", minute, body, frame, lround(place[0] * 1e7),
+               lround(place[1] * 1e7), lround(place[2] * 1e7));
     }
     return 0;
 }

@@ -321,7 +321,7 @@ static void plain_row(double minute, int64_t body, uint8_t *row)
     row[5] = LINDENBROOD_HAE;
     put_eight((int64_t)floor(minute + 0.5), row + 6);
     for (int i = 0; i < 3; i++)
-        put_eight((int64_t)floor(place[i] * 1e7), row + 14 + 8 * i);
+        put_eight(llround(place[i] * 1e7), row + 14 + 8 * i);
 }
 
 static double plain_rows(int64_t frame)

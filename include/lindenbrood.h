@@ -614,8 +614,10 @@ lindenbrood_viewing_answer lindenbrood_viewing_by_table(lindenbrood_date start,
  *   The first refusal that applies, in this order.
  *
  * Note: between two frames that are not HAE the vector goes by way of HAE.
- * Each turn floors, so that there and back may differ by some units.  A part
- * of the answer may be beyond 500000000 and is then refused on the way back.
+ * Each turn ends at the nearest whole number, a half away from zero, so that
+ * the opposite vector, -x, -y, -z, has the opposite answer or the same refusal.
+ * There and back may differ by some units.  A part of the answer may be beyond
+ * 500000000 and is then refused on the way back.
  */
 lindenbrood_vector_answer lindenbrood_turn(lindenbrood_date date, int64_t from,
                                            int64_t to, int64_t x, int64_t y,
@@ -664,6 +666,9 @@ lindenbrood_vector_answer lindenbrood_turn_by_table(lindenbrood_date date,
  *   5   a part of the place or of the vector is out of range: zeros
  *   6   the place gives no direction (see the table of status numbers): zeros
  *   5 comes before 6.
+ *
+ * Note: the answer ends as a turn's does, see lindenbrood_turn: at the same
+ * place the opposite vector has the opposite answer or the same refusal.
  */
 lindenbrood_vector_answer lindenbrood_to_rtn(int64_t rx, int64_t ry, int64_t rz,
                                              int64_t x, int64_t y, int64_t z);

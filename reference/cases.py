@@ -477,3 +477,156 @@ def other_counts(chance, search, place):
     """A search with a hit again: up to the hit, to the date before it, and further."""
     further = (chance.randint(place, x.MOST_DATES), x.MOST_DATES)
     return (search._replace(count=count) for count in (place, place - 1, *further))
+
+
+# -------------------------------------------------------- opposites and halves
+
+HALF = x.UNIT // 2              # a sum of this and whole units ends at a half
+# (minute, table, body): a sum of step 5 is a half.  Such dates are rare; these were
+# found by trying one minute after the other.
+HALF_PLACES = ((-84_391_832, 1, 1), (-32_455_384, 1, 1), (-76_582_016, 1, 9),
+               (-2_546_804_849, 2, 5), (-1_841_523_596, 2, 5), (-2_476_765_400, 2, 3),
+               (-2_149_715_949, 2, 3), (-1_563_976_271, 2, 3))
+
+
+def opposite(vector):
+    return tuple(-part for part in vector)
+
+
+def some_two_sided_vector(chance):
+    """A vector whose opposite has 64 bits too: no part is the least number."""
+    return tuple(max(part, LEAST + 1) for part in some_vector(chance))
+
+
+def some_turn(chance):
+    """(date, table, two frames, a two-sided vector); one in 20 names another table."""
+    table = chance.randint(1, 2)
+    date = some_date_by_table(chance, table)
+    named = table if chance.randrange(20) else some_other_table(chance)
+    return (date, named, some_frame(chance), some_frame(chance),
+            some_two_sided_vector(chance))
+
+
+def opposite_edges():
+    """Every pair of frames at both ends of the intervals, parts at the limit and beyond."""
+    limit = x.PART_LIMIT
+    vectors = ((limit, limit, limit), (limit, -limit, limit), (0, 0, 0), (1, -1, 2),
+               (0, limit + 1, 0), (LEAST + 1, 0, MOST))
+    dates = (*(end for ends in x.INTERVALS.values() for end in ends), math.nan)
+    return itertools.product(dates, (1, 2, 3), range(7), range(7), vectors)
+
+
+def any_half(chance, row):
+    """A vector for which the row's sum is a half, two of its parts by chance.
+
+    One third part from -499,999,999 to 500,000,000 makes it so, where its entry of
+    the row has no common divisor with 10^9; None stands for where it has.
+    """
+    at = chance.randrange(3)
+    if math.gcd(row[at], x.UNIT) != 1:
+        return None
+    vector = [some_part(chance) for _ in range(3)]
+    vector[at] = 0
+    rest = sum(a * b for a, b in zip(row, vector))
+    part = (HALF - rest) * pow(row[at], -1, x.UNIT) % x.UNIT
+    vector[at] = part if part <= HALF else part - x.UNIT
+    return tuple(vector)
+
+
+def small_half(chance, row):
+    """The same with a sum of 1/2, 3/2 or 5/2 of a unit, of either sign.
+
+    With two entries a and b that have no common divisor, a·u + b·v can be any
+    number, with a u within |b| / 2; None stands for where they have one, or where
+    u or v is beyond the limit.
+    """
+    first, second, third = chance.sample(range(3), 3)
+    a, b, divisor = row[first], row[second], abs(row[second])
+    if divisor < 2 or math.gcd(a, b) != 1:
+        return None
+    vector = [0, 0, 0]
+    vector[third] = chance.randint(-20, 20)
+    wanted = chance.choice((1, -1, 3, -3, 5, -5)) * HALF - row[third] * vector[third]
+    u = wanted * pow(a, -1, divisor) % divisor
+    vector[first] = u if u <= divisor // 2 else u - divisor
+    vector[second] = (wanted - a * vector[first]) // b
+    return tuple(vector) if x.parts_in_limit(*vector) else None
+
+
+def vector_for_half(chance, rows):
+    """A vector for which one of the rows ends at a half, or None: then draw anew."""
+    make = chance.choice((any_half, any_half, small_half))
+    return make(chance, chance.choice(rows))
+
+
+def vector_reaching(wanted, rows):
+    """A vector that turns into the wanted one by the rows' way back, or None.
+
+    What a try lacks is turned and added to it.  Not every vector can be reached.
+    """
+    back, vector, lacking = x.transposed(rows), (0, 0, 0), wanted
+    for _ in range(5):
+        vector = tuple(map(sum, zip(vector, x.apply_rows(rows, lacking))))
+        lacking = tuple(w - v for w, v in zip(wanted, x.apply_rows(back, vector)))
+        if not any(lacking):
+            return vector if x.parts_in_limit(*vector) else None
+    return None
+
+
+def some_half_turn(chance):
+    """(minute, table, two frames, vector): a turn that ends at a half.
+
+    Where it is one of two by way of HAE, it is the first or the second of them.
+    """
+    while True:
+        table = chance.randint(1, 2)
+        minute = chance.randint(*x.INTERVALS[table])
+        frame, other = chance.sample((x.GEI, x.HCI, x.HEE, x.HEEQ), 2)
+        other = chance.choice((x.HAE, other))
+        rows = x.frame_rows(minute, frame, table)
+        if chance.randrange(2):
+            frames = frame, other
+            vector = vector_for_half(chance, x.transposed(rows))
+        else:
+            frames = other, frame
+            vector = vector_for_half(chance, rows)
+            if vector and other != x.HAE:
+                vector = vector_reaching(vector, x.frame_rows(minute, other, table))
+        if vector:
+            return minute, table, *frames, vector
+
+
+def some_half_by_rtn(chance):
+    """(whether it is the way back, place, vector) of a turn by RTN that ends at a half."""
+    while True:
+        back, place = chance.randrange(2) == 1, some_place(chance)
+        status, rows = x.rtn_rows(place) if x.parts_in_limit(*place) else (5, None)
+        if status == 0:
+            vector = vector_for_half(chance, x.transposed(rows) if back else rows)
+            if vector:
+                return back, place, vector
+
+
+def halves_among(rows, vector):
+    """How many of the rows' sums are an odd number of half units."""
+    return sum(sum(a * b for a, b in zip(row, vector)) % x.UNIT == HALF for row in rows)
+
+
+def halves_on_the_way(minute, table, source, target, vector):
+    """(turn, halves that it ends at) for each turn between two frames."""
+    if source != x.HAE:
+        back = x.transposed(x.frame_rows(minute, source, table))
+        yield f"{x.FRAME_NAMES[source]} to HAE", halves_among(back, vector)
+        vector = x.apply_rows(back, vector)
+    if target != x.HAE:
+        rows = x.frame_rows(minute, target, table)
+        yield f"HAE to {x.FRAME_NAMES[target]}", halves_among(rows, vector)
+
+
+def halves_by_rtn(back, place, vector):
+    """The same for a turn by RTN."""
+    _, rows = x.rtn_rows(place)
+    if back:
+        yield "RTN to HAE", halves_among(x.transposed(rows), vector)
+    else:
+        yield "HAE to RTN", halves_among(rows, vector)

@@ -5,10 +5,12 @@
 
 LIB is the shared library; WHAT is one of sines, solver, dates, elements,
 places, turns, rtn, rows, sheets, roundtrip, tables_elements, tables_places,
-tables_turns, viewing, or all.  COUNT is the number of cases (rtn: that many
-there and that many back; tables_...: that many for each table, beside the
-edges; viewing: that many searches beside the edges, the hits among them asked
-for again with other counts), SEED the start of chance.
+tables_turns, viewing, opposites, halves, or all.  COUNT is the number of cases
+(rtn: that many there and that many back; tables_...: that many for each table,
+beside the edges; viewing: that many searches beside the edges, the hits among
+them asked for again with other counts; opposites: that many vectors between
+frames and a fifth of it by RTN each way, beside the edges; halves: that many
+vectors; both with the opposite of each vector), SEED the start of chance.
 One line is printed for each comparison, and the first few differences.
 Exit status: 1 if anything differs, else 2 if anything was skipped, else 0.
 """
@@ -135,9 +137,14 @@ def rtn_edges():
     return itertools.product(places, vectors)
 
 
-def compare_rtn(library, tally, count, chance):
-    ways = ((library.call("to_rtn"), x.to_rtn_answer),
+def rtn_ways(library):
+    """The library's call and exact.py's for the way there, and for the way back."""
+    return ((library.call("to_rtn"), x.to_rtn_answer),
             (library.call("from_rtn"), x.from_rtn_answer))
+
+
+def compare_rtn(library, tally, count, chance):
+    ways = rtn_ways(library)
     source = itertools.chain(rtn_edges(), endless(
         chance, cases.some_place, cases.some_vector))
     for place, vector in chosen(source, count):
@@ -288,6 +295,66 @@ def compare_viewing(library, tally, count, chance):
         f"status {status} {times} times" for status, times in sorted(statuses.items())))
 
 
+def check_opposites(tally, given, call, wanted, vector):
+    """A vector and its opposite: as exact.py has both, and opposites by themselves."""
+    other = cases.opposite(vector)
+    got, got_other = call(*vector), call(*other)
+    are_opposites = got_other == (got[0], *cases.opposite(got[1:]))
+    tally.check((*given, vector),
+                (got, got_other, "opposites" if are_opposites else "no opposites"),
+                (wanted(vector), wanted(other), "opposites"))
+
+
+def check_opposites_by_rtn(tally, way, place, vector):
+    call, wanted = way
+    check_opposites(tally, (wanted.__name__, place), lambda *parts: call(*place, *parts),
+                    lambda parts: wanted(place, parts), vector)
+
+
+def check_opposites_by_turn(tally, turn, date, table, source, target, vector):
+    check_opposites(tally, (date, table, source, target),
+                    lambda *parts: turn(date, table, source, target, *parts),
+                    lambda parts: x.turn_answer(date, source, target, parts, table), vector)
+
+
+def compare_opposites(library, tally, count, chance):
+    """02, Item 4: opposite vectors turn into opposites, and are refused alike."""
+    turn, ways = library.dated("turn_by_table"), rtn_ways(library)
+    chances = (cases.some_turn(chance) for _ in range(count))
+    for asked in itertools.chain(cases.opposite_edges(), chances):
+        check_opposites_by_turn(tally, turn, *asked)
+    chances = endless(chance, cases.some_place, cases.some_two_sided_vector)
+    for place, vector in itertools.chain(rtn_edges(), chosen(chances, count // 5)):
+        for way in ways:
+            check_opposites_by_rtn(tally, way, place, vector)
+
+
+def compare_halves(library, tally, count, chance):
+    """02, Item 4, where the rule for a half decides.  Also prints how many halves it met.
+
+    Places on the dates known for step 5 come first.  Of the vectors one in four goes
+    by RTN.  Their opposites are compared too and not counted: they have as many
+    halves, of the other sign.
+    """
+    turn, ways = library.dated("turn_by_table"), rtn_ways(library)
+    counts = library.dated("counts_by_table")
+    for (minute, table, body), frame in itertools.product(cases.HALF_PLACES, range(1, 6)):
+        tally.check((minute, table, body, frame), counts(minute, table, body, frame),
+                    x.place_answer(minute, body, frame, table))
+    met = Counter({"step 5": len(cases.HALF_PLACES)})
+    for number in range(count):
+        if number % 4 == 0:
+            back, place, vector = cases.some_half_by_rtn(chance)
+            check_opposites_by_rtn(tally, ways[back], place, vector)
+            met.update(dict(cases.halves_by_rtn(back, place, vector)))
+        else:
+            asked = cases.some_half_turn(chance)
+            check_opposites_by_turn(tally, turn, *asked)
+            met.update(dict(cases.halves_on_the_way(*asked)))
+    print(f"halves: {met.total()} sums of exactly half a unit met,", ", ".join(
+        f"{name} {times}" for name, times in sorted(met.items())))
+
+
 # name: (comparison, its usual number of cases)
 COMPARISONS = {
     "sines": (compare_sines, 200_000),
@@ -304,6 +371,8 @@ COMPARISONS = {
     "tables_places": (compare_tables_places, 20_000),
     "tables_turns": (compare_tables_turns, 20_000),
     "viewing": (compare_viewing, 1_000),
+    "opposites": (compare_opposites, 50_000),
+    "halves": (compare_halves, 20_000),
 }
 
 

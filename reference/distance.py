@@ -3,6 +3,7 @@
 
     python3 distance.py [DATES]                    beside double.c, per body
     python3 distance.py --true-sine [DATES]        the same without 01's sine table
+    python3 distance.py --mean [DATES]             the means without it: x, y, z, distance
     python3 distance.py --picture FILE.svg         the first as a picture over the years
     python3 distance.py --plan94 [DATES]           beside ERFA's eraPlan94 (plan94.c)
     python3 distance.py --nights                   six viewing nights beside eraPlan94's
@@ -132,6 +133,30 @@ def report_double(count, table):
                   f"{row[2]:13.1f} {row[3]:13.3f}")
 
 
+def mean_difference(place, body, minutes, table):
+    """Means over the minutes: x, y, z of exact minus double in HAE, and the distance."""
+    apart = [[count - part * exact.AU for count, part in zip(
+        accepted_place(minute, body, exact.HAE, table), place(minute, body))]
+        for minute in minutes]
+    columns = *zip(*apart), [math.hypot(*parts) for parts in apart]
+    return [math.fsum(column) / len(minutes) for column in columns]
+
+
+def report_mean(count, table):
+    """With a true sine, so that what the roundings do shows; see 02, Item 4."""
+    use_true_sine()
+    with tempfile.TemporaryDirectory() as folder:
+        place = place_function(build(folder, "double"), "double_place_by_table", table)
+        minutes = spread_minutes(count, table)
+        print(f"mean of exact minus double over {len(minutes)} dates, HAE, 1e-7 au, "
+              f"true sine, table {table}")
+        print("body             x        y        z distance")
+        for body, name in enumerate(exact.NAMES, 1):
+            means = mean_difference(place, body, minutes, table)
+            print(f"{name:8}" + "".join(f"{mean:+9.2f}" for mean in means[:3])
+                  + f"{means[3]:9.2f}")
+
+
 def report_plan94(count, table):
     with tempfile.TemporaryDirectory() as folder:
         place = place_function(build(folder, "plan94", "-lerfa"), "plan94_place")
@@ -224,6 +249,7 @@ def arguments():
     kind = parser.add_mutually_exclusive_group()
     kind.add_argument("--picture", metavar="FILE.svg")
     kind.add_argument("--true-sine", action="store_true")
+    kind.add_argument("--mean", action="store_true")
     kind.add_argument("--plan94", action="store_true")
     kind.add_argument("--nights", action="store_true")
     kind.add_argument("--lengths", action="store_true")
@@ -241,6 +267,8 @@ def main():
     dates = chosen.dates or 20000
     if chosen.picture:
         draw(chosen.picture, dates)
+    elif chosen.mean:
+        report_mean(dates, chosen.table)
     elif chosen.plan94:
         report_plan94(chosen.dates or 500, chosen.table)
     elif chosen.nights:

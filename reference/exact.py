@@ -2,8 +2,8 @@
 """Documents 01 and 02 in whole numbers of any size: the exact reference program.
 
 Every definition stands here in document 01's words and order, and what one of
-document 02's items changes names that item.  So far: 02, Items 1 and 3; Item 2
-needs no rule here.  Only whole numbers and fractions are used, except for a
+document 02's items changes names that item.  So far: 02, Items 1, 3 and 4; Item
+2 needs no rule here.  Only whole numbers and fractions are used, except for a
 Julian date that arrives as a double and a place that leaves as doubles.
 Sources: 002 (Standish) for the elements and steps, 000 (Fraenz and Harper) for
 the frames, 003 for RTN.
@@ -53,6 +53,16 @@ def unit_product(first, *others):
     for factor in others:
         first = floor(first * factor, UNIT)
     return first
+
+
+def end_turn(number):
+    """The nearest whole number of number / 10^9, a half away from zero (02, Item 4).
+
+    It ends a turn between frames, a turn to or from RTN, and step 5.  // floors, so
+    it is done on the number without its sign.
+    """
+    nearest = floor(abs(number) + UNIT // 2, UNIT)
+    return nearest if number >= 0 else -nearest
 
 
 def whole_root(number):
@@ -356,10 +366,10 @@ def coefficients(orbit):
 
 
 def place_in_hae(minute, body, table=DEFAULT_TABLE):
-    """Steps 1 to 5: the body's place in frame 1."""
+    """Steps 1 to 5: the body's place in frame 1, step 5 ended as a turn is (02, Item 4)."""
     orbit = elements(minute, body, table)
     x, y = place_in_orbit(orbit, mean_anomaly(orbit, extra_terms(minute, body, table)))
-    return tuple(floor(p * x + q * y, UNIT) for p, q in coefficients(orbit))
+    return tuple(end_turn(p * x + q * y) for p, q in coefficients(orbit))
 
 
 def body_status(date, body, table=DEFAULT_TABLE):
@@ -397,8 +407,8 @@ PART_LIMIT = 500_000_000
 
 
 def apply_rows(rows, vector):
-    """A coordinate is floor of the row's sum of products over 10^9."""
-    return tuple(floor(sum(a * b for a, b in zip(row, vector)), UNIT)
+    """A coordinate is the row's sum of products over 10^9, ended by 02, Item 4."""
+    return tuple(end_turn(sum(a * b for a, b in zip(row, vector)))
                  for row in rows)
 
 
@@ -488,7 +498,8 @@ def to_hae(minute, frame, vector, table=DEFAULT_TABLE):
 def turn(minute, source, target, vector, table=DEFAULT_TABLE):
     """Between two frames that are not HAE the vector goes by way of HAE.
 
-    A frame to itself leaves the vector unchanged.
+    Both turns then end by 02, Item 4.  A frame to itself leaves the vector
+    unchanged.
     """
     if source == target:
         return vector

@@ -3,13 +3,16 @@
 Run by `python3 exact.py selftest`; prints what fails, and a last line.
 """
 
+import itertools
 import math
 import os
 import random
 import re
 from datetime import datetime, timedelta
+from decimal import ROUND_HALF_UP, Context, Decimal
 from fractions import Fraction
 
+import cases
 import exact as x
 
 LISTING_INPUT = b"26298001 4 1\n0 10 1\n0 4 6\n0 four 1"
@@ -337,6 +340,187 @@ def solver_checks(chance):
         yield f"error {e} {mean}", error < x.UNIT, True
 
 
+MANY_DIGITS = Context(prec=60)      # every number here has fewer
+
+
+def end_turn_examples():
+    """02, Item 4: a half goes away from zero, what is beside it to the nearer number."""
+    for number, end in (
+            (0, 0), (1, 0), (499_999_999, 0), (500_000_000, 1), (500_000_001, 1),
+            (999_999_999, 1), (10**9, 1), (1_499_999_999, 1), (1_500_000_000, 2),
+            (1_500_000_001, 2), (2_499_999_999, 2), (2_500_000_000, 3),
+            (9_223_372_036_499_999_999, 9_223_372_036),
+            (9_223_372_036_500_000_000, 9_223_372_037),
+            (2**63 - 1, 9_223_372_037), (2**63, 9_223_372_037)):
+        yield f"end of {number}", x.end_turn(number), end
+        yield f"end of {-number}", x.end_turn(-number), -end
+
+
+def end_by_decimal(number):
+    """The same by decimal, whose ROUND_HALF_UP is a half away from zero."""
+    in_units = MANY_DIGITS.scaleb(Decimal(number), -9)
+    return int(in_units.quantize(Decimal(1), ROUND_HALF_UP, MANY_DIGITS))
+
+
+def some_sum(chance):
+    """A number that a turn may end: any of 64 bits, or within one of a half or whole unit."""
+    if chance.randrange(2):
+        return chance.randint(-2**63, 2**63)
+    return chance.randint(-2**34, 2**34) * cases.HALF + chance.randint(-1, 1)
+
+
+def end_turn_checks(chance):
+    """Beside decimal's rounding; opposites end as opposites, half a unit off at most."""
+    for _ in range(3000):
+        number = some_sum(chance)
+        end = x.end_turn(number)
+        yield f"end of {number} by decimal", end, end_by_decimal(number)
+        yield f"end of the opposite of {number}", x.end_turn(-number), -end
+        yield f"{number} and its end", abs(x.UNIT * end - number) <= cases.HALF, True
+
+
+def nearest_of(fraction):
+    """The whole number at the least distance; of two the one further from zero."""
+    below = math.floor(fraction)
+    return min(below, below + 1,
+               key=lambda whole: (abs(whole - fraction), -abs(whole)))
+
+
+def nearest_sums(rows, vector):
+    """Each row's sum of products over 10^9, in fractions, and the nearest whole number."""
+    return tuple(nearest_of(sum(Fraction(a * b, x.UNIT) for a, b in zip(row, vector)))
+                 for row in rows)
+
+
+def step_5_checks(chance):
+    """A place in HAE has the whole numbers nearest to P·x' + Q·y'."""
+    for table, body in itertools.product((1, 2), range(1, 10)):
+        for minute in some_moments(chance, table):
+            orbit = x.elements(minute, body, table)
+            _, mean = x.mean_anomaly_answer(minute, body, table)
+            nearest = nearest_sums(x.coefficients(orbit), x.place_in_orbit(orbit, mean))
+            yield (f"step 5 of {body} at {minute} by table {table}",
+                   x.place_in_hae(minute, body, table), nearest)
+
+
+def step_5_half_checks():
+    """The dates known for a sum of step 5 that is exactly a half."""
+    for minute, table, body in cases.HALF_PLACES:
+        orbit = x.elements(minute, body, table)
+        _, mean = x.mean_anomaly_answer(minute, body, table)
+        in_orbit = x.place_in_orbit(orbit, mean)
+        halves = cases.halves_among(x.coefficients(orbit), in_orbit)
+        yield f"halves of {body} at {minute} by table {table}", halves, 1
+        yield (f"place of {body} at {minute} by table {table}",
+               x.place_in_hae(minute, body, table),
+               nearest_sums(x.coefficients(orbit), in_orbit))
+
+
+def some_vectors(chance):
+    """Some at the limit of the parts, some by chance, small and large."""
+    limit = x.PART_LIMIT
+    return ((limit, limit, limit), (limit, -limit, limit), (0, 0, -limit), (1, -1, 2),
+            *(tuple(chance.randint(-size, size) for _ in range(3))
+              for size in (20, 10**5, limit, limit)))
+
+
+def nearest_turn_checks(chance):
+    """Every turn ends at the nearest whole number, both turns by way of HAE do."""
+    for table, source, target in itertools.product((1, 2), range(2, 6), range(2, 6)):
+        minute = chance.randint(*x.INTERVALS[table])
+        to_source, to_target = (x.frame_rows(minute, frame, table)
+                                for frame in (source, target))
+        for vector in some_vectors(chance) if source != target else ():
+            in_hae = nearest_sums(zip(*to_source), vector)
+            what = f"{source} to {target} of {vector} at {minute} by table {table}"
+            yield f"{what}, in HAE", x.turn(minute, source, x.HAE, vector, table), in_hae
+            yield (what, x.turn(minute, source, target, vector, table),
+                   nearest_sums(to_target, in_hae))
+
+
+def opposite_answer(answer):
+    """The same status, and the opposite vector; a refused one's zeros are their own."""
+    return answer[:1] + cases.opposite(answer[1:])
+
+
+def opposite_turn_checks(chance):
+    """02, Item 4: opposite vectors turn into opposites, and are refused alike."""
+    beyond = (0, x.PART_LIMIT + 1, 0), (-2**63 + 1, 1, 2)
+    for table, source, target in itertools.product((1, 2), range(1, 6), range(1, 6)):
+        minutes = some_moments(chance, table)[:5]
+        dates = (*minutes, *(end + more for end, more in zip(x.INTERVALS[table], (-1, 1))),
+                 math.nan)
+        vectors = *some_vectors(chance), *beyond
+        asked = itertools.chain(zip(itertools.cycle(minutes), vectors),
+                                zip(dates, itertools.cycle(vectors)))
+        for date, vector in asked:
+            yield (f"opposite of {vector}, {source} to {target}, {date}, table {table}",
+                   x.turn_answer(date, source, target, cases.opposite(vector), table),
+                   opposite_answer(x.turn_answer(date, source, target, vector, table)))
+
+
+def opposite_rtn_checks(chance):
+    """The same by RTN both ways, at places with a direction, without, and out of range."""
+    limit = x.PART_LIMIT
+    places = [(0, 0, 0), (99_999, 0, 0), (0, 100_000, 0), (limit, -limit, limit),
+              (limit + 1, 0, 0), tuple(part // 2 for part in x.SOLAR_AXIS),
+              *(tuple(chance.randint(-size, size) for _ in range(3))
+                for size in (10**5, 10**6, 10**7, limit) for _ in range(20))]
+    for place in places:
+        for vector in (*some_vectors(chance), (limit + 1, 0, 0)):
+            for call in (x.to_rtn_answer, x.from_rtn_answer):
+                yield (f"{call.__name__} at {place}, opposite of {vector}",
+                       call(place, cases.opposite(vector)),
+                       opposite_answer(call(place, vector)))
+
+
+def earth_on_axis_checks(chance):
+    """The Earth's own y is 0 in HEE and HEEQ: the rows' rounding is far below a half."""
+    for table in (1, 2):
+        for minute, frame in itertools.product(some_moments(chance, table),
+                                               (x.HEE, x.HEEQ)):
+            _, along, across, _ = x.place_answer(minute, x.EARTH, frame, table)
+            yield (f"the Earth in {x.FRAME_NAMES[frame]} at {minute} by table {table}",
+                   (along > 9_000_000, across), (True, 0))
+
+
+def floor_examples():
+    """02, Item 4 leaves every other division its floor, as numbers below zero show."""
+    for a, b, product in ((-1, 1, -1), (1, 999_999_999, 0), (-1, 400_000_000, -1),
+                          (-7, 200_000_000, -2), (7, 400_000_000, 2)):
+        yield f"{a}∘{b}", x.unit_product(a, b), product
+    yield "a chain of ∘", x.unit_product(-1, 1, 1), -1
+    yield "a cross product", x.cross_product((0, 1, 0), (1, 0, 0)), (0, 0, -1)
+    yield "its opposite", x.cross_product((1, 0, 0), (0, 1, 0)), (0, 0, 0)
+    yield ("a unit vector", x.unit_vector((-1, 2, 2)),
+           (-333_333_334, 666_666_666, 666_666_666))
+    yield ("its opposite", x.unit_vector((1, -2, -2)),
+           (333_333_333, -666_666_667, -666_666_667))
+
+
+def step_4_checks(chance):
+    """x' and y' keep their floors, which cut off less than one and never add."""
+    for table, body in itertools.product((1, 2), range(1, 10)):
+        for minute in some_moments(chance, table):
+            orbit = x.elements(minute, body, table)
+            _, mean = x.mean_anomaly_answer(minute, body, table)
+            _, anomaly = x.eccentric_anomaly_answer(orbit.e, mean)
+            along, across = x.place_in_orbit(orbit, mean)
+            minor = orbit.a * math.isqrt(10**18 - 100 * orbit.e**2) // 10**10
+            cut = (Fraction(orbit.a * (x.cosine(anomaly) - 10 * orbit.e), 10**10) - along,
+                   Fraction(minor * x.sine(anomaly), x.UNIT) - across)
+            yield (f"step 4 of {body} at {minute} by table {table}, {cut} cut off",
+                   all(0 <= part < 1 for part in cut), True)
+
+
+def item_4_checks(chance):
+    """All of 02, Item 4: what ends otherwise than in document 01, and what does not."""
+    return [*end_turn_examples(), *end_turn_checks(chance), *step_5_checks(chance),
+            *step_5_half_checks(), *nearest_turn_checks(chance),
+            *opposite_turn_checks(chance), *opposite_rtn_checks(chance),
+            *earth_on_axis_checks(chance), *floor_examples(), *step_4_checks(chance)]
+
+
 def main():
     chance = random.Random(1)
     checks = [*date_examples(), *element_examples(), *sine_examples(),
@@ -346,7 +530,8 @@ def main():
               *extra_term_checks(chance), *edition_checks(), *double_checks(),
               *night_checks(), *viewing_rule_examples(),
               *viewing_plane_checks(chance), *viewing_count_examples(),
-              *viewing_refusal_examples()]
+              *viewing_refusal_examples(),
+              *item_4_checks(random.Random(4))]
     wrong = [(what, got, wanted) for what, got, wanted in checks if got != wanted]
     for what, got, wanted in wrong:
         print(f"selftest: {what}: got {got}, wanted {wanted}")

@@ -1,7 +1,7 @@
 -- What is given and what is answered: how far a given vector or place may reach, and a turned vector or its refusal.
 use mathlib.Core.Bool.{Bool, _&&_}
 use mathlib.Core.List.{List}
-use lib.IntN.{ℤ, pos, negsuc}
+use lib.IntN.{ℤ, pos, negsuc, negℤ}
 use Rattle.integers.specs.Range.{isFromTo}
 use Rattle.integers.specs.Triple.{at, zeros}
 use Rattle.refusals.specs.Number.{numberOf}
@@ -27,3 +27,11 @@ turnedStatus (Refused r) = numberOf r
 abbrev pub turnedVector : Turned → Coordinates
 turnedVector (Vector v) = v
 turnedVector (Refused r) = asCoordinates zeros
+
+-- "opposite vectors give opposite results" (02, Item 4): the opposite coordinates, and the answer that has them; a refusal stays as it is
+abbrev pub oppositeCoordinates : Coordinates → Coordinates
+oppositeCoordinates p = record { x = negℤ (p .x); y = negℤ (p .y); z = negℤ (p .z) }
+
+abbrev pub oppositeTurned : Turned → Turned
+oppositeTurned (Vector p) = Vector (oppositeCoordinates p)
+oppositeTurned (Refused r) = Refused r

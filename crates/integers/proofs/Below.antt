@@ -1,7 +1,7 @@
 -- A number z below zero by casts that lose nothing: -1 - z is not negative and fits, also for the least number.
 -- By the two forms of a signed number; z is -1 - k, and k + 1 is its size.
 use mathlib.Core.Path.{_≡_, ap, subst⁻¹, _∙_}
-use Prim.Native.Nat.{_+_, _^_, _<_}
+use Prim.Native.Nat.{_+_, _^_, _≤_}
 use native.Mathlib.Omega.{arith}
 use lib.Dec.{T}
 use lib.IntN.{ℤ, pos, negsuc, natAbs, _-ℤ_}
@@ -12,7 +12,7 @@ use Rattle.integers.proofs.Difference.{ext, d-minus, d-le, lt-d}
 use Rattle.integers.proofs.Cast.{read, back, fits₂, val₂, cast-fits}
 use Rattle.integers.proofs.Number.{lit}
 
-pub abs-small : (z : ℤ) → SFits w64 z → natAbs z < 2 ^ 64
+pub abs-small : (z : ℤ) → SFits w64 z → natAbs z ≤ 2 ^ 63
 abs-small (pos n) f = omega (arith, f .sfits)
 abs-small (negsuc n) f = omega (arith, f .sfits)
 

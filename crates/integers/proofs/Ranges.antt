@@ -1,14 +1,14 @@
 -- "a to b": the record, its test, and the test's outcome say the same; what a range says of a number's size.
 -- The test is two comparisons, and the record's two fields are what they tell.
-use mathlib.Core.Bool.{true, false}
+use mathlib.Core.Bool.{Bool, true, false}
 use mathlib.Core.Path.{_≡_, refl, subst, sym}
 use Prim.Native.Nat.{ℕ, _≤_}
 use lib.Dec.{T, leb→le}
-use lib.IntN.{ℤ, pos, negsuc, natAbs}
+use lib.IntN.{ℤ, pos, negsuc, negℤ, natAbs, negℤ-negℤ}
 use lib.Signed.{leZ, _≤ℤ_, _<ℤ_, clashℤ}
 use mir.Facts.{and-yes, yes-and}
 use Rattle.integers.specs.Range.{Within, FromTo, isFromTo}
-use Rattle.integers.proofs.Difference.{zarith, d-abs}
+use Rattle.integers.proofs.Difference.{zarith, d-abs, up-neg, dn-neg}
 use Rattle.integers.proofs.Table.{yes, no}
 
 module _ (a b z : ℤ) where
@@ -57,6 +57,27 @@ range-most a (negsuc z) h = absurd (h .low .le)
 pub range-least : {n : ℕ} (a : ℕ) (z : ℤ) → FromTo (pos a) (pos n) z → a ≤ natAbs z
 range-least a (pos z) h = leb→le a z (h .low .le)
 range-least a (negsuc z) h = absurd (h .low .le)
+
+-- a range that goes as far below 0 as above it holds a number where it holds the opposite one
+opposite-in : (n : ℕ) (z : ℤ) → FromTo (negℤ (pos n)) (pos n) z → FromTo (negℤ (pos n)) (pos n) (negℤ z)
+opposite-in n z h =
+    record {
+      low = omega (zarith, h .high, up-neg z, dn-neg z, up-neg (pos n), dn-neg (pos n));
+      high = omega (zarith, h .low, up-neg z, dn-neg z, up-neg (pos n), dn-neg (pos n));
+    }
+
+pub range-opposite : (n : ℕ) (z : ℤ) → isFromTo (negℤ (pos n)) (pos n) (negℤ z) ≡ isFromTo (negℤ (pos n)) (pos n) z
+range-opposite n z = go (isFromTo a b z) refl
+  where
+    a : ℤ
+    a = negℤ (pos n)
+
+    b : ℤ
+    b = pos n
+
+    go : (t : Bool) → isFromTo a b z ≡ t → isFromTo a b (negℤ z) ≡ t
+    go true e = is-inside a b (negℤ z) (opposite-in n z (inside-of a b z e))
+    go false e = is-outside a b (negℤ z) (λ (h : FromTo a b (negℤ z)). outside-of a b z e (subst (FromTo a b) (negℤ-negℤ z) (opposite-in n (negℤ z) h)))
 
 -- a range inside another
 pub range-more : {a b c d z : ℤ} → FromTo a b z → T (leZ c a) → T (leZ b d) → FromTo c d z

@@ -67,7 +67,7 @@ bits-tell a b f g =
 is-less : (a b : ℤ) → a <ℤ b → ltZ a b ≡ true
 is-less a b h = yes (ltZ a b) (h .lt)
 
-no-less : (a b : ℤ) → b ≤ℤ a → ltZ a b ≡ false
+pub no-less : (a b : ℤ) → b ≤ℤ a → ltZ a b ≡ false
 no-less a b h = no (ltZ a b) (λ t. clashℤ (record { lt = t }) h)
 
 at-least-1 : (a b : ℕ) → 1 ≤ suc a * suc b

@@ -1,7 +1,9 @@
--- Document 01, "Counts used": "floor" is toward minus infinity, and `a∘b` is floor(a·b / 10^9).
-use Prim.Native.Nat.{ℕ, _*_, _/_}
-use lib.IntN.{ℤ, pos, negsuc, _+ℤ_, _-ℤ_, _*ℤ_}
-use lib.Signed.{_≤ℤ_, _<ℤ_}
+-- Document 01, "Counts used": "floor" is toward minus infinity, and `a∘b` is floor(a·b / 10^9). Document 02, Item 4: the division that ends a
+-- turn goes to the nearest whole number.
+use Prim.Native.Nat.{ℕ, _+_, _*_, _/_, _≤_, _<_}
+use lib.IntN.{ℤ, pos, negsuc, natAbs, _+ℤ_, _-ℤ_, _*ℤ_}
+use lib.Signed.{ltZ, _≤ℤ_, _<ℤ_}
+use Rattle.integers.specs.Sign.{signed}
 
 -- floor(z / m). Below zero, -(a + 1) over m is -(floor(a / m) + 1)
 abbrev pub floorDiv : ℤ → ℕ → ℤ
@@ -21,11 +23,17 @@ pub record IsFloor (z : ℤ) (m : ℕ) (q : ℤ) : Type 0 where
 abbrev pub unitProduct : ℤ → ℤ → ℤ
 unitProduct a b = floorDiv (a *ℤ b) 1000000000
 
--- the division by 10^9 that ends a turn and step 5 (01, "From date to place", step 5, and "Frames"). It has a name of its own, apart
--- from `∘`, since it is rounded by a rule of its own; proofs cite its two laws (proofs/Ends.antt), not this text
+-- the division by 10^9 that ends a turn and step 5: "to the nearest whole number, a half away from zero" (02, Item 4), which is, of |z|,
+-- floor((|z| + 500,000,000) / 10^9), with z's sign. Proofs cite its laws (proofs/Ends.antt), not this text
 unfoldable pub endTurn : ℤ → ℤ
-endTurn z = floorDiv z 1000000000
+endTurn z = signed (ltZ z (pos 0)) ((natAbs z + 500000000) / 1000000000)
 
--- floor(a / k + 1/2): a / k to the nearest whole number
+-- q is the end of a turn by what it does: it is within half a unit, and, seen from zero, z is beyond it by less than that. The laws
+-- `end-turn-is` and `end-turn-only` say that `endTurn` is the one
+pub record IsEnd (z q : ℤ) : Type 0 where
+  pub near : natAbs (q *ℤ pos 1000000000 -ℤ z) ≤ 500000000
+  pub beyond : natAbs z < natAbs q * 1000000000 + 500000000
+
+-- floor(a / k + 1/2): a / k to the nearest whole number, a half toward plus, as a Julian date becomes its minute (01, "Counts used")
 abbrev pub rounded : ℤ → ℕ → ℤ
 rounded a k = floorDiv (pos 2 *ℤ a +ℤ pos k) (2 * k)

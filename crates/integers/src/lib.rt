@@ -1,5 +1,6 @@
 // Whole-number arithmetic: a number's range, size, sign and bits, floor division of signed numbers, floor(a b / d) where the product does
-// not fit 64 bits, the product over 10^9, and the whole square root. The laws on numbers that other crates cite stand in proofs/.
+// not fit 64 bits, the product over 10^9, the division that ends a turn, and the whole square root. The laws on numbers that other crates
+// cite stand in proofs/.
 ghost use mathlib.Core.Path.{_≡_};
 ghost use Prim.Native.Nat.{_≤_};
 ghost use lib.IntN.{pos, natAbs, _*ℤ_};
@@ -110,11 +111,12 @@ pub fn unit_product(a: i64, b: i64) -> i64
     floor_div(a * b, 1_000_000_000)
 }
 
-// floor(z / 10^9), the division that ends a turn and step 5. Its rounding is a rule of its own, apart from `∘`.
+// z / 10^9 to the nearest whole number, a half away from zero: the division that ends a turn and step 5 (02, Item 4). The half is added to
+// the size of z, and the sign put back, so that opposite numbers have opposite ends.
 pub fn end_turn(z: i64) -> i64
     ensures { λ r. ⌜ r ≡ endTurn z ⌝ }
 {
-    floor_div(z, 1_000_000_000)
+    with_sign(z < 0, (size(z) + 500_000_000) / 1_000_000_000)
 }
 
 // The greatest whole number whose square is not above x (02, Item 2): a bit of it, and two bits of x, at a time from the highest, with no

@@ -41,7 +41,7 @@ coefficientsBy sω cω sΩ cΩ sI cI =
 unfoldable pub coefficientsOf : ℤ → ℤ → ℤ → Coefficients
 coefficientsOf ω Ω I = coefficientsBy (sineOf ω) (cosineOf ω) (sineOf Ω) (cosineOf Ω) (sineOf I) (cosineOf I)
 
--- step 5: each coordinate is floor((P·x' + Q·y') / 10^9), the division that also ends a turn
+-- step 5: each coordinate is (P·x' + Q·y') / 10^9, ended as a turn is (02, Item 4)
 abbrev pub eclipticOf : Coefficients → ℤ → ℤ → List ℤ
 eclipticOf k x y =
     endTurn (k .px *ℤ x +ℤ k .qx *ℤ y)

@@ -76,9 +76,9 @@ module _ (table m : ℤ) (h : OnTable table m) where
       (table-place-within table body m b h) tt tt tt tt tt tt tt
 
   -- a given vector, of parts up to 500,000,000, turned between any two frames
-  pub turned-vector-long : (f g : ℤ) (v : List ℤ) → KnownFrame f → KnownFrame g → PartsWithin 500000000 v → NoLonger 866026276 (turnedBetween f g (earthAt table m) v)
+  pub turned-vector-long : (f g : ℤ) (v : List ℤ) → KnownFrame f → KnownFrame g → PartsWithin 500000000 v → NoLonger 866026274 (turnedBetween f g (earthAt table m) v)
   turned-vector-long f g v hf hg p =
-      between-long (earthAt table m) f g 500000000 866025404 866025837106353400 866025840 866026273106462400 866026276 v hf hg (earth-fits f) (earth-fits g) p tt tt tt tt tt tt tt
+      between-long (earthAt table m) f g 500000000 866025404 866025837012593747 866025839 866026272012811247 866026274 v hf hg (earth-fits f) (earth-fits g) p tt tt tt tt tt tt tt
 
 -- ---- no length is 0: on every accepted date, by either table, HEE divides by the first, HEEQ by the second and the third
 pub lengths-not-0 : (date : Date) (table offset m : ℤ) → momentAfter date table offset ≡ Accepted m → (9300000 ≤ lengthOf (onEcliptic (earthAt table m))) × ((9300000 ≤ lengthOf (earthAt table m)) × (690000000 ≤ lengthOf (axisCross (earthAt table m))))

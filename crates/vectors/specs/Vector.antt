@@ -3,7 +3,7 @@ use mathlib.Core.Bool.{Bool, true, false}
 use mathlib.Core.List.{List, [], _∷_}
 use Prim.Native.Nat.{ℕ, zero, suc, _+_, _*_}
 use lib.ListN.{getD}
-use lib.IntN.{ℤ, pos, natAbs, _+ℤ_, _-ℤ_, _*ℤ_}
+use lib.IntN.{ℤ, pos, negℤ, natAbs, _+ℤ_, _-ℤ_, _*ℤ_}
 use Rattle.integers.specs.Triple.{at, zeros}
 use Rattle.integers.specs.Floor.{floorDiv, endTurn}
 use Rattle.integers.specs.Root.{rootOf}
@@ -16,7 +16,7 @@ rowAt m i = getD m i []
 abbrev pub dotOf : List ℤ → List ℤ → ℤ
 dotOf a v = at a 0 *ℤ at v 0 +ℤ at a 1 *ℤ at v 1 +ℤ at a 2 *ℤ at v 2
 
--- "a coordinate is floor of the row's sum of products over 10^9": the division that ends a turn
+-- a coordinate is "the row's sum of products over 10^9", ended "to the nearest whole number, a half away from zero" (02, Item 4)
 unfoldable pub applied : List (List ℤ) → List ℤ → List ℤ
 applied m v = endTurn (dotOf (rowAt m 0) v) ∷ endTurn (dotOf (rowAt m 1) v) ∷ endTurn (dotOf (rowAt m 2) v) ∷ []
 
@@ -31,6 +31,10 @@ transposed m = columnOf m 0 ∷ columnOf m 1 ∷ columnOf m 2 ∷ []
 abbrev pub wayOf : (back : Bool) → List (List ℤ) → List (List ℤ)
 wayOf false m = m
 wayOf true m = transposed m
+
+-- "opposite vectors give opposite results" (02, Item 4)
+abbrev pub oppositeOf : List ℤ → List ℤ
+oppositeOf v = negℤ (at v 0) ∷ negℤ (at v 1) ∷ negℤ (at v 2) ∷ []
 
 -- "L = floor of the square root of the sum of squares"
 abbrev pub squareOf : ℤ → ℕ

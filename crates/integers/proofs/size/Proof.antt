@@ -30,7 +30,7 @@ add-result c =
 cast-result-2 : tie.Need-cast-result-2
 cast-result-2 c =
     let s = c .before in
-    cast-fits (back (s .args .z) (s .fits .z)) (not-negative c) (abs-small (s .args .z) (s .fits .z))
+    cast-fits (back (s .args .z) (s .fits .z)) (not-negative c) (omega (arith, abs-small (s .args .z) (s .fits .z)))
 
 returns : tie.Need-returns
 returns c = less-size (c .before .args .z) (c .before .fits .z) (negative c)
