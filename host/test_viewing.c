@@ -93,7 +93,7 @@ static sight seen_on(int64_t minute, int64_t table, int64_t body)
                    p.x * e.y - p.y * e.x};
 }
 
-static bool are_opposite(int64_t a, int64_t b)
+static bool opposite_signs(int64_t a, int64_t b)
 {
     return (a < 0 && b > 0) || (a > 0 && b < 0);
 }
@@ -109,7 +109,7 @@ static answer walked(const search *s)
         sight seen = seen_on(start + k * s->step, s->table, s->body);
 
         placed = placed && seen.placed;
-        if (seen.dot > 0 && (seen.cross == 0 || are_opposite(seen.cross, before)))
+        if (seen.dot > 0 && (seen.cross == 0 || opposite_signs(seen.cross, before)))
             found = (answer){0, start + k * s->step, k + 1};
         before = seen.cross;
     }

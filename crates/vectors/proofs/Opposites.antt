@@ -2,16 +2,13 @@
 -- A row's sum of products with the opposite is the opposite sum, and opposite sums have opposite ends.
 use mathlib.Core.Path.{_≡_, ap, _∙_}
 use mathlib.Core.List.{List, [], _∷_}
-use lib.IntN.{ℤ, negℤ, _+ℤ_, _*ℤ_, *ℤ-comm}
+use lib.IntN.{ℤ, negℤ, _+ℤ_, _*ℤ_}
 use Rattle.integers.specs.Triple.{at}
 use Rattle.integers.specs.Floor.{endTurn}
 use Rattle.integers.proofs.Difference.{zarith, d-add, up-neg, dn-neg}
-use Rattle.integers.proofs.Ring.{neg-mul}
+use Rattle.integers.proofs.Ring.{mul-neg}
 use Rattle.integers.proofs.Ends.{end-turn-odd}
 use Rattle.vectors.specs.Vector.{rowAt, dotOf, applied, oppositeOf}
-
-times-opposite : (x y : ℤ) → x *ℤ negℤ y ≡ negℤ (x *ℤ y)
-times-opposite x y = *ℤ-comm x (negℤ y) ∙ neg-mul y x ∙ ap negℤ (*ℤ-comm y x)
 
 opposite-sum : (x y : ℤ) → negℤ x +ℤ negℤ y ≡ negℤ (x +ℤ y)
 opposite-sum x y = omega (zarith, up-neg x, dn-neg x, up-neg y, dn-neg y, d-add x y, d-add (negℤ x) (negℤ y), up-neg (x +ℤ y), dn-neg (x +ℤ y))
@@ -21,7 +18,7 @@ dot-opposite a v =
     let x = at a 0 *ℤ at v 0 in
     let y = at a 1 *ℤ at v 1 in
     let z = at a 2 *ℤ at v 2 in
-    (λ i. times-opposite (at a 0) (at v 0) i +ℤ times-opposite (at a 1) (at v 1) i +ℤ times-opposite (at a 2) (at v 2) i)
+    (λ i. mul-neg (at a 0) (at v 0) i +ℤ mul-neg (at a 1) (at v 1) i +ℤ mul-neg (at a 2) (at v 2) i)
     ∙ ap (λ (s : ℤ). s +ℤ negℤ z) (opposite-sum x y)
     ∙ opposite-sum (x +ℤ y) z
 
