@@ -1,5 +1,7 @@
 // The two units of angles, one turn, and the sine and cosine of any angle by document 01's table of 901 entries.
 // The table is a constant, and each mention of a constant builds it anew: an entry point asks for it once and lends it down.
+#![tactic(auto)]
+
 ghost use Rattle.std.specs.Prelude.{◌≡◌, ◌≤◌, ◌<◌, ◌+◌, ◌-◌, pos, nat_abs, ◌+ℤ◌, ◌-ℤ◌};
 ghost use Rattle.integers.specs.Range.{Within};
 ghost use Rattle.angles.specs.Unit.{millionths, hundred_millionths, in_millionths, one_turn};
@@ -10,11 +12,11 @@ ghost use Rattle.angles.specs.Sine.{folded, quarter_sine, half_sine, with_sign_o
 mod table;
 
 // An angle in millionths of a degree. Its count is private to this crate, so that only named functions convert it.
-#[derive(Drop)]
+#[derive(Clone, Copy)]
 pub struct Angle(i64);
 
 // An element of an orbit in hundred-millionths: of a degree, of an au, or of 1.
-#[derive(Drop)]
+#[derive(Clone, Copy)]
 pub struct Element(i64);
 
 impl Angle {

@@ -1,4 +1,6 @@
 // What C gives and gets back: a date in one struct, and each answer as a struct of its number and its values.
+#![tactic(auto)]
+
 ghost use Rattle.std.specs.Prelude.{◌≡◌, pos};
 ghost use Rattle.rows.specs.Answer.{written_status};
 ghost use Rattle.answers.specs.Answer.{date_of, c_angle, six_elements, c_elements, three_counts, c_counts, c_vector, three_doubles, c_place, searched, c_viewing};
@@ -17,7 +19,7 @@ use viewing::ViewingAnswer;
 
 // A date. Form 0 is the Julian date; any other form is the minutes, and the member that is not meant is not looked at.
 #[repr(C)]
-#[derive(Drop)]
+#[derive(Clone, Copy)]
 pub struct CDate {
     pub form: i64,
     pub julian: f64,
@@ -26,7 +28,7 @@ pub struct CDate {
 
 // A status number, and an angle in millionths of a degree, zero where the status is not.
 #[repr(C)]
-#[derive(Drop)]
+#[derive(Clone, Copy)]
 pub struct CAngle {
     pub status: i64,
     pub angle: i64,
@@ -34,7 +36,7 @@ pub struct CAngle {
 
 // A status number, and six elements in hundred-millionths, zeros where the status is not.
 #[repr(C)]
-#[derive(Drop)]
+#[derive(Clone, Copy)]
 pub struct CElements {
     pub status: i64,
     pub a: i64,
@@ -47,7 +49,7 @@ pub struct CElements {
 
 // A status number, and three counts of 10^-7 au, zeros where the status is not.
 #[repr(C)]
-#[derive(Drop)]
+#[derive(Clone, Copy)]
 pub struct CVector {
     pub status: i64,
     pub x: i64,
@@ -57,7 +59,7 @@ pub struct CVector {
 
 // A status number, and three doubles in au, zeros where the status is not.
 #[repr(C)]
-#[derive(Drop)]
+#[derive(Clone, Copy)]
 pub struct CPlace {
     pub status: i64,
     pub x: f64,
@@ -67,7 +69,7 @@ pub struct CPlace {
 
 // A status number, and the fields of the row that was read, zeros where the status is not.
 #[repr(C)]
-#[derive(Drop)]
+#[derive(Clone, Copy)]
 pub struct CRow {
     pub status: i64,
     pub row_status: i64,
@@ -81,7 +83,7 @@ pub struct CRow {
 
 // A status number, and how many rows of the sheet have status 0.
 #[repr(C)]
-#[derive(Drop)]
+#[derive(Clone, Copy)]
 pub struct CSheet {
     pub status: i64,
     pub good: usize,
@@ -89,7 +91,7 @@ pub struct CSheet {
 
 // A status number, and the place of the first wrong row, zero where there is none.
 #[repr(C)]
-#[derive(Drop)]
+#[derive(Clone, Copy)]
 pub struct CMark {
     pub status: i64,
     pub row: usize,
@@ -97,7 +99,7 @@ pub struct CMark {
 
 // A status number, the minute of the hit, zero where the status is not, and how many dates were looked at.
 #[repr(C)]
-#[derive(Drop)]
+#[derive(Clone, Copy)]
 pub struct CViewing {
     pub status: i64,
     pub minutes: i64,

@@ -1,6 +1,8 @@
 // Dates: a Julian date or whole minutes, the exact minute that a date comes to, its test against an interval, the test of a step
 // between dates, and what a rate a century comes to in so many minutes. The minute comes first and the test after it, so that
 // a refusal can stand between them.
+#![tactic(auto)]
+
 ghost use Rattle.std.specs.Prelude.{◌≡◌, ◌^◌};
 ghost use Rattle.std.specs.Float.{binary64};
 ghost use Rattle.std.specs.Float.Ieee.{of_fields};
@@ -12,28 +14,28 @@ ghost use Rattle.dates.specs.Reach.{clamped, held, Held, InReach, NearFields, Ro
 use refusals::Refusal;
 
 // A date is given either as a Julian date, a double, or as whole minutes from JD 2451545.0.
-#[derive(Drop)]
+#[derive(Clone, Copy)]
 pub enum Date {
     Julian(f64),
     Minutes(i64),
 }
 
 // The minute of a date, which a Julian date that is not finite lacks.
-#[derive(Drop)]
+#[derive(Clone, Copy)]
 pub enum Minute {
     At(i64),
     NotFinite,
 }
 
 // The minutes from the first to the last, both accepted.
-#[derive(Drop)]
+#[derive(Clone, Copy)]
 pub struct Interval {
     pub first: i64,
     pub last: i64,
 }
 
 // The minute of a date that is accepted, or the refusal of one that is not: number 1 or 2.
-#[derive(Drop)]
+#[derive(Clone, Copy)]
 pub enum Moment {
     Accepted(i64),
     Refused(Refusal),

@@ -1,5 +1,7 @@
 // Sun-centred frames: rotations of three rows, vectors turned between frames, and RTN at a spacecraft's place.
 // In a rotation 10^9 stands for one. Lengths are counts of 10^-7 au. The Earth's place in HAE is the caller's.
+#![tactic(auto)]
+
 ghost use Rattle.std.specs.Prelude.{◌≡◌};
 ghost use Rattle.integers.specs.Triple.{PartsWithin};
 ghost use Rattle.vectors.specs.Range.{NoLonger};
@@ -12,7 +14,7 @@ ghost use Rattle.frames.specs.Rtn.{rtn_of, rtn_turned, to_rtn, from_rtn};
 use refusals::Refusal;
 
 // Three coordinates. A struct, since an enum holds no array.
-#[derive(Drop)]
+#[derive(Clone, Copy)]
 pub struct Coordinates {
     pub x: i64,
     pub y: i64,
@@ -20,7 +22,7 @@ pub struct Coordinates {
 }
 
 // A turned vector, or the refusal: 5 or 6 of RTN; 1, 2, 4 or 5 of a turn on a date.
-#[derive(Drop)]
+#[derive(Clone, Copy)]
 pub enum Turned {
     Vector(Coordinates),
     Refused(Refusal),

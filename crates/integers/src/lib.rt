@@ -1,6 +1,8 @@
 // Whole-number arithmetic: a number's range, size, sign and bits, floor division of signed numbers, floor(a b / d) where the product does
 // not fit 64 bits, the product over 10^9, the division that ends a turn, and the whole square root. The laws on numbers that other crates
 // cite stand in proofs/.
+#![tactic(auto)]
+
 ghost use Rattle.std.specs.Prelude.{◌≡◌, ◌≤◌, pos, nat_abs, ◌-ℤ◌, ◌*ℤ◌, ◌<ℤ◌};
 ghost use Rattle.integers.specs.Range.{is_from_to, ProductFits, SplitFits};
 ghost use Rattle.integers.specs.Floor.{floor_div, floor_mod, unit_product, end_turn};

@@ -1,5 +1,7 @@
 // Kepler's equation in whole numbers: the eccentric anomaly that leaves the least error, for every mean anomaly.
 // The search keeps a bracket that is proved; how it guesses inside it matters for speed alone.
+#![tactic(auto)]
+
 ghost use Rattle.std.specs.Prelude.{◌≡◌, ◌<◌, ◌≤◌, ◌+◌, ◌-◌, pos};
 ghost use Rattle.integers.specs.Range.{apart};
 ghost use Rattle.angles.specs.Unit.{millionths, hundred_millionths};
@@ -13,7 +15,7 @@ use angles::{Angle, Element};
 use refusals::Refusal;
 
 // An anomaly, or the refusal.
-#[derive(Drop)]
+#[derive(Clone, Copy)]
 pub enum AnomalyAnswer {
     Anomaly(Angle),
     Refused(Refusal),

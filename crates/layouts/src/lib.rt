@@ -1,4 +1,6 @@
 // Numbers in bytes. A layout is the list of its fields' widths; one writer and one reader go by it, whatever it is.
+#![tactic(auto)]
+
 ghost use Rattle.std.specs.Prelude.{◌≡◌, ◌++◌, ◌%◌, ◌≤◌, ◌<◌, T, length, drop};
 ghost use Rattle.layouts.specs.Bytes.{big_endian, big_number};
 ghost use Rattle.layouts.specs.Layout.{total, narrow, bytes_of, numbers_in, are_zeros};

@@ -1,6 +1,8 @@
 // The C interface, a static library. Each exported function is one line over the crates below; `include/lindenbrood.h`
 // declares them for C. One struct carries a date in either form, so that no call exists twice. A call that names no table hands
 // on `DEFAULT_TABLE`; to go by way of the call by a table would cost some 9 ns.
+#![tactic(auto)]
+
 ghost use Rattle.std.specs.Prelude.{◌≡◌, [], ◌∷◌};
 ghost use Rattle.angles.specs.Sine.{sine_of, cosine_of};
 ghost use Rattle.kepler.specs.Answer.{solved_of};

@@ -1,5 +1,7 @@
 // The listing program: lines of minute, body and frame from standard input, and the answer to each on a line of standard output.
 // What a line asks for and what is printed are the library's; here are the reads, the writes and the buffers.
+#![tactic(auto)]
+
 ghost use Rattle.std.specs.Prelude.{◌≡◌, ◌≤◌, ◌<◌, length};
 ghost use Rattle.angles.specs.Sines.{sine_entries};
 ghost use Rattle.listing.specs.Parts.{PartEnd};
@@ -8,7 +10,7 @@ use libc::{STDIN_FILENO, STDOUT_FILENO};
 use listing_lines::Fed;
 
 // A read: what is held and what is ready after it, and whether more input may come.
-#[derive(Drop)]
+#[derive(Clone, Copy)]
 struct Turn {
     held: usize,
     at: usize,

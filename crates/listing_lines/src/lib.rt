@@ -1,4 +1,6 @@
 // The lines of the listing: a line of input read as a request, the answer worked out, and its line printed into lent bytes.
+#![tactic(auto)]
+
 ghost use Rattle.std.specs.Prelude.{◌≡◌, true, [], ◌∷◌, ◌++◌, ◌+◌, ◌-◌, ◌*◌, ◌≤◌, ◌<◌, length, take, drop, set};
 ghost use Rattle.angles.specs.Sines.{sine_entries};
 ghost use Rattle.listing_lines.specs.Request.{is_digit, digits_of, whole_of, with_sign, space_at, asked_of, request_of};
@@ -13,21 +15,21 @@ use refusals::Refusal;
 use tables::DEFAULT_TABLE;
 
 // The number that one to ten digits stand for.
-#[derive(Drop)]
+#[derive(Clone, Copy)]
 pub enum Digits {
     Value(u64),
     NoDigits,
 }
 
 // A number of a line, with its sign.
-#[derive(Drop)]
+#[derive(Clone, Copy)]
 pub enum Number {
     Whole(i64),
     NoNumber,
 }
 
 // What a line asks for: minute, body and frame.
-#[derive(Drop)]
+#[derive(Clone, Copy)]
 pub enum Request {
     Asked(i64, i64, i64),
     NoRequest,
@@ -263,7 +265,7 @@ fn put_held(sines: &[u32; 901], text: &[u8], held: usize, bytes: &mut [u8], at: 
 }
 
 // How much is held of a line that has not ended, and the byte behind what is printed.
-#[derive(Drop)]
+#[derive(Clone, Copy)]
 pub struct Fed {
     pub held: usize,
     pub at: usize,

@@ -1,5 +1,7 @@
 // Marking pupils' sheets: the first row of a sheet that is no row, is a refused one, or has a coordinate further from ours than allowed. Each row
 // is worked out by its own body, frame and minute. One sine table is lent for the whole sheet, and the sheet itself is only read.
+#![tactic(auto)]
+
 ghost use Rattle.std.specs.Prelude.{◌≡◌, ◌*◌, ◌≤◌, length};
 ghost use Rattle.integers.specs.First.{first_picked};
 ghost use Rattle.angles.specs.Sines.{sine_entries};
@@ -15,7 +17,7 @@ use refusals::Refusal;
 use rows::{ROW_BYTES, ROW_TABLE, ReadAnswer, Row};
 
 // Every row is right, or the place of the first that is wrong, counted from 1, or the refusal.
-#[derive(Drop)]
+#[derive(Clone, Copy)]
 pub enum MarkAnswer {
     Good,
     Wrong(usize),

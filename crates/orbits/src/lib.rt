@@ -1,6 +1,8 @@
 // From a date to a place: the elements of a body, its mean anomaly, and its place in HAE of J2000, by document 01's five steps.
 // Elements come from a row of twelve numbers, and the place from elements and a mean anomaly, so that other rows, and a mean anomaly
 // with more terms, need no change below.
+#![tactic(auto)]
+
 ghost use Rattle.std.specs.Prelude.{◌≡◌, ◌≤◌, pos, ◌+ℤ◌, ◌-ℤ◌, ◌*ℤ◌};
 ghost use Rattle.integers.specs.Range.{Within};
 ghost use Rattle.integers.specs.Floor.{floor_div, unit_product, end_turn};
@@ -18,7 +20,7 @@ use kepler::AnomalyAnswer;
 use refusals::Refusal;
 
 // The six elements of an orbit: semi-major axis in au, eccentricity, and four angles in degrees, each in hundred-millionths.
-#[derive(Drop)]
+#[derive(Clone, Copy)]
 pub struct Elements {
     pub a: Element,
     pub e: Element,
@@ -29,14 +31,14 @@ pub struct Elements {
 }
 
 // A place in the plane of the orbit, the x-axis toward the perihelion, in counts of 10^-7 au.
-#[derive(Drop)]
+#[derive(Clone, Copy)]
 pub struct InPlane {
     pub x: i64,
     pub y: i64,
 }
 
 // The six coefficients of (8-34), two for each coordinate.
-#[derive(Drop)]
+#[derive(Clone, Copy)]
 pub struct Coefficients {
     pub px: i64,
     pub qx: i64,
@@ -46,7 +48,7 @@ pub struct Coefficients {
     pub qz: i64,
 }
 
-#[derive(Drop)]
+#[derive(Clone, Copy)]
 pub enum ElementsAnswer {
     Found(Elements),
     Refused(Refusal),

@@ -1,5 +1,7 @@
 // The answers for a date: the place of a body in a frame, in counts and in au, and vectors turned from a frame to a frame. The
 // caller lends the sine table, so that a sheet or a listing builds it once.
+#![tactic(auto)]
+
 ghost use Rattle.std.specs.Prelude.{◌≡◌, ◌&&◌, ◌||◌};
 ghost use Rattle.integers.specs.Range.{Within};
 ghost use Rattle.integers.specs.Triple.{PartsWithin};
@@ -16,14 +18,14 @@ use projector::PlaceInAu;
 use refusals::Refusal;
 
 // The minute of a date and the place on it, or the refusal.
-#[derive(Drop)]
+#[derive(Clone, Copy)]
 pub enum PlaceAnswer {
     Found(i64, Coordinates),
     Refused(Refusal),
 }
 
 // A place in au, or the refusal.
-#[derive(Drop)]
+#[derive(Clone, Copy)]
 pub enum AuAnswer {
     InAu(PlaceInAu),
     Refused(Refusal),

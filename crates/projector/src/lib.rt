@@ -1,10 +1,12 @@
 // A place for the projector: three doubles in au, each from a whole count of 10^-7 au.
+#![tactic(auto)]
+
 ghost use Rattle.std.specs.Prelude.{◌≡◌};
 ghost use Rattle.integers.specs.Range.{Within};
 ghost use Rattle.projector.specs.Au.{CountsExact, au, in_au, nowhere};
 
 // A place in au.
-#[derive(Drop)]
+#[derive(Clone, Copy)]
 pub struct PlaceInAu {
     pub x: f64,
     pub y: f64,

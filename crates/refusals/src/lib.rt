@@ -1,8 +1,10 @@
 // The numbered refusals of documents 01 and 02, one case for each. Later numbers are further cases.
+#![tactic(auto)]
+
 ghost use Rattle.std.specs.Prelude.{◌≡◌};
 ghost use Rattle.refusals.specs.Number.{number_of};
 
-#[derive(Drop)]
+#[derive(Clone, Copy)]
 pub enum Refusal {
     // 1: a Julian date that is not finite.
     NotFinite,

@@ -1,5 +1,7 @@
 // The bytes of a row: written from its fields, and read. Its layout is a list of widths, by which `layouts` writes and reads. One
 // function says which fields are a row's.
+#![tactic(auto)]
+
 ghost use Rattle.std.specs.Prelude.{◌≡◌, ◌++◌, ◌≤◌, ◌<◌, length, drop};
 ghost use Rattle.refusals.specs.Number.{number_of};
 ghost use Rattle.layouts.specs.Layout.{numbers_in};
@@ -23,7 +25,7 @@ pub const ROW_TABLE: i64 = 1;
 const WIDTHS: [usize; 9] = [2, 1, 1, 1, 1, 8, 8, 8, 8];
 
 // The fields of a row. A refused row has its number for the status, and zeros for all others.
-#[derive(Drop)]
+#[derive(Clone, Copy)]
 pub struct Row {
     pub status: i64,
     pub body: i64,
@@ -37,14 +39,14 @@ pub struct Row {
 }
 
 // The row that stands in bytes, or refusal 9.
-#[derive(Drop)]
+#[derive(Clone, Copy)]
 pub enum ReadAnswer {
     Found(Row),
     Refused(Refusal),
 }
 
 // Whether a row was written: refusal 8 or 9 where it was not.
-#[derive(Drop)]
+#[derive(Clone, Copy)]
 pub enum Written {
     Done,
     Refused(Refusal),

@@ -1,4 +1,6 @@
 // Rows and sheets for dates: one row, or rows for a start, start + step, and so on, in bytes that are lent.
+#![tactic(auto)]
+
 ghost use Rattle.std.specs.Prelude.{◌≡◌, ◌++◌, ◌*◌, ◌≤◌, length, drop};
 ghost use Rattle.integers.specs.Range.{Within};
 ghost use Rattle.angles.specs.Sines.{sine_entries};
@@ -14,7 +16,7 @@ use refusals::Refusal;
 use rows::{ROW_BYTES, ROW_TABLE};
 
 // Document 01's number for the sheet as a whole, and how many of its rows have status 0.
-#[derive(Drop)]
+#[derive(Clone, Copy)]
 pub struct SheetAnswer {
     pub status: i64,
     pub good: usize,

@@ -1,5 +1,7 @@
 // Document 002's tables: a row of twelve numbers for each body, the numbers of the further terms that M has by Table 2, and the
 // interval of dates that each fit covers.
+#![tactic(auto)]
+
 ghost use Rattle.std.specs.Prelude.{◌≡◌, pos};
 ghost use Rattle.integers.specs.Range.{Within};
 ghost use Rattle.tables.specs.Table.{Body, is_table, is_body, table_row, table_terms, interval_of, moment_after};

@@ -1,4 +1,6 @@
 // Vectors of three numbers and rotations of three rows, in which 10^9 stands for one.
+#![tactic(auto)]
+
 ghost use Rattle.std.specs.Prelude.{◌≡◌, ◌≤◌, pos, nat_abs, ◌*ℤ◌, ◌<ℤ◌};
 ghost use Rattle.integers.specs.Range.{Within};
 ghost use Rattle.integers.specs.Triple.{PartsWithin};

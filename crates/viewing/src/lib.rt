@@ -1,5 +1,7 @@
 // Viewing nights: the first date of a walk on which a planet is at opposition or inferior conjunction. One sine table is lent for the
 // whole walk, and each date's places are worked out once.
+#![tactic(auto)]
+
 ghost use Rattle.std.specs.Prelude.{◌≡◌, ◌≤◌};
 ghost use Rattle.integers.specs.First.{first_picked};
 ghost use Rattle.integers.specs.Range.{Within};
@@ -15,14 +17,14 @@ use dates::{Date, Moment};
 use refusals::Refusal;
 
 // How a planet and the Earth stand to each other, seen from the Sun in the plane of HAE: the dot and the cross product of x and y.
-#[derive(Drop)]
+#[derive(Clone, Copy)]
 pub struct Aspect {
     pub dot: i64,
     pub cross: i64,
 }
 
 // The minute of the date, or the refusal; and how many dates were looked at.
-#[derive(Drop)]
+#[derive(Clone, Copy)]
 pub enum ViewingAnswer {
     Found(i64, usize),
     Refused(Refusal, usize),

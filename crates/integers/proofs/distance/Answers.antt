@@ -1,6 +1,5 @@
 -- `distance` is the size of the difference of any two numbers.
 -- On one side of 0 the difference of two numbers that fit fits too; on two sides its size is the sum of theirs.
-use borrow.Author.Rules.{rules}
 use mathlib.Core.Bool.{Bool, beq, true, false}
 use mathlib.Core.Path.{◌≡◌, refl, sym, ap, ◌∙◌}
 use Prim.Native.Nat.{◌+◌, ◌^◌, ◌<◌}
@@ -13,8 +12,8 @@ use Rattle.integers.proofs.Cast.{read, back, fits₂, val₂}
 use Rattle.integers.proofs.Difference.{zarith, d_minus}
 use Rattle.integers.proofs.Ring.{abs_minus}
 use Rattle.integers.proofs.Table.{differ}
-use Rattle.integers.proofs.distance.Statement.{statement}
-use Rattle.integers.proofs.distance.Tie as tie
+use Rattle.integers.proofs.distance.Goals as goal
+use Rattle.integers.proofs.distance.Goals.{After-size-else-a-b-2, Else-a-b, Start, Then-a-b}
 
 -- ---- two numbers on two sides of 0: the sum of their sizes is the size of the difference, and has 64 bits
 record Across (a b : ℤ) : Type 0 where
@@ -27,7 +26,7 @@ from_below (negsuc a) (negsuc b) l m f g = absurd m.le
 from_below (negsuc a) (pos b) l m f g = record { sum = omega (arith, abs_minus (negsuc a) (pos b)); fits = omega (arith, f.sfits, g.sfits) }
 
 turned : (a b : ℤ) → Across b a → Across a b
-turned a b c = record { sum = omega (arith, c.sum, abs_minus a b, abs_minus b a); fits = omega (arith, c.ranges) }
+turned a b c = record { sum = omega (arith, c.sum, abs_minus a b, abs_minus b a); fits = omega (arith, c.fits) }
 
 -- ---- what the test tells
 module _ (a b : ℤ) (f : SFits w64 a) (g : SFits w64 b) where
@@ -43,44 +42,39 @@ module _ (a b : ℤ) (f : SFits w64 a) (g : SFits w64 b) where
   two-sides true false r s t = from_below a b (omega (zarith, r)) (omega (zarith, s)) f g
   two-sides false true r s t = turned a b (from_below b a (omega (zarith, s)) (omega (zarith, r)) g f)
 
-module _ (s : tie.Start) where
+module _ (s : Start) where
   a-is : read s.args.a ≡ s.args.a
   a-is = back s.args.a s.ranges.a
 
   b-is : read s.args.b ≡ s.args.b
-  b-is = back s.args.b s.fits.b
+  b-is = back s.args.b s.ranges.b
 
   -- the test, of the numbers themselves
   told : {t : Bool} → beq (lt_z (read s.args.a) (pos 0)) (lt_z (read s.args.b) (pos 0)) ≡ t → beq (lt_z s.args.a (pos 0)) (lt_z s.args.b (pos 0)) ≡ t
   told e = (λ i. beq (lt_z (sym a-is i) (pos 0)) (lt_z (sym b-is i) (pos 0))) ∙ e
 
-fits : (c : tie.Then1) → SFits w64 (c.before.args.a -ℤ c.before.args.b)
-fits c = let s = c.before in one_side s.args.a s.args.b s.ranges.a s.ranges.b _ _ refl refl (told s c.if1.true)
+fits : (c : Then-a-b) → SFits w64 (c.before.args.a -ℤ c.before.args.b)
+fits c = let s = c.before in one_side s.args.a s.args.b s.ranges.a s.ranges.b _ _ refl refl (told s c.if-a-b.true)
 
-sub-size : tie.Need-overflow-sub-size
-sub-size c = fits₂ ◌-ℤ◌ (a-is c.before) (b-is c.before) (fits c)
+pub overflow_sub-a : goal.overflow_sub-a
+overflow_sub-a c = fits₂ ◌-ℤ◌ (a-is c.before) (b-is c.before) (fits c)
 
-returns : tie.Need-returns
-returns c =
+pub returns-then-a-b : goal.returns-then-a-b
+returns-then-a-b c =
     let s = c.before.before in
     c.size.ensures ∙ ap nat_abs (val₂ ◌-ℤ◌ (a-is s) (b-is s) (fits c.before))
 
 -- both sizes
-sizes : (c : tie.After-size3) → (let s = c.before.before.before in c.before.size2.result + c.size3.result ≡ nat_abs s.args.a + nat_abs s.args.b)
+sizes : (c : After-size-else-a-b-2) → (let s = c.before.before.before in c.before.size-else-a-b.result + c.size-else-a-b-2.result ≡ nat_abs s.args.a + nat_abs s.args.b)
 sizes c =
     let s = c.before.before.before in
-    λ i. (c.before.size2.ensures ∙ ap nat_abs (a-is s)) i + (c.size3.ensures ∙ ap nat_abs (b-is s)) i
+    λ i. (c.before.size-else-a-b.ensures ∙ ap nat_abs (a-is s)) i + (c.size-else-a-b-2.ensures ∙ ap nat_abs (b-is s)) i
 
-across : (c : tie.Else1) → Across c.before.args.a c.before.args.b
-across c = let s = c.before in two-sides s.args.a s.args.b s.ranges.a s.ranges.b _ _ refl refl (told s c.if1.false)
+across : (c : Else-a-b) → Across c.before.args.a c.before.args.b
+across c = let s = c.before in two-sides s.args.a s.args.b s.ranges.a s.ranges.b _ _ refl refl (told s c.if-a-b.false)
 
-add-result : tie.Need-overflow-add-result
-add-result c = record { fits = omega (arith, sizes c, (across c.before.before).fits) }
+pub overflow_add-result : goal.overflow_add-result
+overflow_add-result c = record { fits = omega (arith, sizes c, (across c.before.before).fits) }
 
-returns-2 : tie.Need-returns-2
-returns-2 c = sizes c ∙ (across c.before.before).sum
-
-pub distance-spec : {M : Type 1} → statement M
-distance-spec =
-    tie.close
-    (tie.spec sub-size (λ c κs. search rules) (λ c κs. search rules) (λ c κs. search rules) add-result returns returns-2)
+pub returns-else-a-b : goal.returns-else-a-b
+returns-else-a-b c = sizes c ∙ (across c.before.before).sum

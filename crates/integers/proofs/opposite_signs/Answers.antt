@@ -6,14 +6,10 @@ use lib.IntN.{pos}
 use lib.Signed.{lt_z}
 use Rattle.integers.proofs.Cast.{back}
 use Rattle.integers.proofs.Same.{signs_tell}
-use Rattle.integers.proofs.opposite_signs.Statement.{statement}
-use Rattle.integers.proofs.opposite_signs.Tie as tie
+use Rattle.integers.proofs.opposite_signs.Goals as goal
 
-returns : tie.Need-returns
+pub returns : goal.returns
 returns c =
     let a = back c.args.a c.ranges.a in
     let b = back c.args.b c.ranges.b in
     (λ i. (lt_z (a i) (pos 0) && lt_z (pos 0) (b i)) || (lt_z (pos 0) (a i) && lt_z (b i) (pos 0))) ∙ signs_tell c.args.a c.args.b
-
-pub opposite-signs-spec : {M : Type 1} → statement M
-opposite-signs-spec = tie.close (tie.spec returns)

@@ -12,39 +12,36 @@ use Rattle.integers.proofs.Difference.{zarith}
 use Rattle.integers.proofs.Floor.{pos_abs, abs_pos, mod_low, mod_high}
 use Rattle.integers.proofs.Cast.{fits₂, val₂}
 use Rattle.integers.proofs.Division.{read_divisor, div_need, rest, floor_below, floor_not_below}
-use Rattle.integers.proofs.floor_mod.Statement.{statement}
-use Rattle.integers.proofs.floor_mod.Tie as tie
+use Rattle.integers.proofs.floor_mod.Goals as goal
+use Rattle.integers.proofs.floor_mod.Goals.{Then-r-lt0}
 
-rem-r : tie.Need-nonzero-rem-r
-rem-r c = div_need c.args.a c.args.d c.ranges.a c.ranges.d c.requires
+pub nonzero_rem-r : goal.nonzero_rem-r
+nonzero_rem-r c = div_need c.args.a c.args.d c.ranges.a c.ranges.d c.requires
 
 -- what the floor leaves fits, since d does
 mod-fits : (a : ℤ) (m : ℕ) → 0 < m → SFits w64 (pos m) → SFits w64 (floor_mod a m)
 mod-fits a zero p f = absurd (omega arith)
 mod-fits a (suc m) p f = omega (zarith, mod_low a m, mod_high a m)
 
-more-fits : (c : tie.Then1) → SFits w64 (rem_z c.before.args.a (pos (nat_abs c.before.args.d)) +ℤ pos (nat_abs c.before.args.d))
+more-fits : (c : Then-r-lt0) → SFits w64 (rem_z c.before.args.a (pos (nat_abs c.before.args.d)) +ℤ pos (nat_abs c.before.args.d))
 more-fits c =
     let s = c.before in
-    subst (SFits w64) (sym (floor_below s.args.a s.args.d s.ranges.a s.ranges.d s.requires c.if1.true).1)
+    subst (SFits w64) (sym (floor_below s.args.a s.args.d s.ranges.a s.ranges.d s.requires c.if-r-lt0.true).1)
     (mod-fits s.args.a (nat_abs s.args.d) (abs_pos s.args.d s.requires) (rw (pos_abs s.args.d s.requires) s.ranges.d))
 
-add-result : tie.Need-overflow-add-result
-add-result c =
+pub overflow_add-result : goal.overflow_add-result
+overflow_add-result c =
     let s = c.before in
     fits₂ ◌+ℤ◌ (rest s.args.a s.args.d s.ranges.a s.ranges.d s.requires) (read_divisor s.args.a s.args.d s.ranges.a s.ranges.d s.requires) (more-fits c)
 
-returns : tie.Need-returns
-returns c =
+pub returns-then-r-lt0 : goal.returns-then-r-lt0
+returns-then-r-lt0 c =
     let s = c.before in
     val₂ ◌+ℤ◌ (rest s.args.a s.args.d s.ranges.a s.ranges.d s.requires) (read_divisor s.args.a s.args.d s.ranges.a s.ranges.d s.requires) (more-fits c)
-    ∙ (floor_below s.args.a s.args.d s.ranges.a s.ranges.d s.requires c.if1.true).1
+    ∙ (floor_below s.args.a s.args.d s.ranges.a s.ranges.d s.requires c.if-r-lt0.true).1
 
-returns-2 : tie.Need-returns-2
-returns-2 c =
+pub returns-else-r-lt0 : goal.returns-else-r-lt0
+returns-else-r-lt0 c =
     let s = c.before in
     rest s.args.a s.args.d s.ranges.a s.ranges.d s.requires
-    ∙ (floor_not_below s.args.a s.args.d s.ranges.a s.ranges.d s.requires c.if1.false).1
-
-pub floor-mod-spec : {M : Type 1} → statement M
-floor-mod-spec = tie.close (tie.spec rem-r add-result returns returns-2)
+    ∙ (floor_not_below s.args.a s.args.d s.ranges.a s.ranges.d s.requires c.if-r-lt0.false).1
