@@ -1,0 +1,18 @@
+-- `put_number` leaves the low bytes of the number, as many as were lent, the high one first.
+-- Invariant: the bytes of `rest` that are still to come, before those that stand from byte i on, are the number's.
+use borrow.Author.Rules.{rules}
+use mathlib.Core.List.{◌++◌, append-nil}
+use mathlib.Core.Path.{◌≡◌}
+use Prim.Native.Nat.{◌≤◌}
+use native.Mathlib.Omega.{arith}
+use lib.ListN.{length, drop, length-set}
+use lib.Seq.{drop-length}
+use Rattle.layouts.specs.Bytes.{big_endian}
+use Rattle.layouts.proofs.Numbers.{next_byte}
+use Rattle.layouts.proofs.put_number.Given as goal
+
+abbrev pub invariant-loop-i : goal.invariant-loop-i
+invariant-loop-i l = (l.i ≤ length l.bytes) × (length l.bytes ≡ length l.initial.bytes) × (big_endian l.i l.rest ++ drop l.i l.bytes ≡ big_endian (length l.initial.bytes) l.n)
+
+abbrev pub decreases-loop-i : goal.decreases-loop-i
+decreases-loop-i l = l.i
