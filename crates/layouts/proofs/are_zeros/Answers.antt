@@ -1,13 +1,11 @@
 -- `are_zeros` tells whether all of the numbers are 0.
 -- Invariant: the test of those from number i on tells the whole.
-use borrow.Author.Rules.{rules}
-use borrow.Author.Tests.{not-true, not-false}
 use mathlib.Core.Bool.{Bool, true, false, ◌&&◌}
 use mathlib.Core.Path.{◌≡◌, refl}
-use Prim.Native.Nat.{◌+◌, ◌-◌}
+use Prim.Native.Nat.{◌+◌}
 use native.Mathlib.Numerals.{add-one}
 use lib.IntN.{pos}
-use lib.ListN.{length, drop, get_or, drop_of_length-le}
+use lib.ListN.{drop, get_or, drop_of_length-le}
 use lib.Seq.{drop-cons}
 use Rattle.integers.proofs.Cast.{back_ok}
 use Rattle.layouts.specs.Layout.{are_zeros}
@@ -29,7 +27,7 @@ pub loop-i-init : goal.loop-i-init
 loop-i-init c = refl
 
 pub returns-then-not-are_same : goal.returns-then-not-are_same
-returns-then-not-are_same c = told c.before false (not-true _ c.if-not-are_same.true)
+returns-then-not-are_same c = told c.before false (c.if-not-are_same.true)
 
 pub loop-i-preserved : goal.loop-i-preserved
-loop-i-preserved c = told c.before true (not-false _ c.if-not-are_same.false)
+loop-i-preserved c = told c.before true (c.if-not-are_same.false)

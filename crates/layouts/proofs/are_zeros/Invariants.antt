@@ -1,15 +1,8 @@
 -- `are_zeros` tells whether all of the numbers are 0.
 -- Invariant: the test of those from number i on tells the whole.
-use borrow.Author.Rules.{rules}
-use borrow.Author.Tests.{not-true, not-false}
-use mathlib.Core.Bool.{Bool, true, false, ◌&&◌}
-use mathlib.Core.Path.{◌≡◌, refl}
-use Prim.Native.Nat.{◌+◌, ◌-◌}
-use native.Mathlib.Numerals.{add-one}
-use lib.IntN.{pos}
-use lib.ListN.{length, drop, get_or, drop_of_length-le}
-use lib.Seq.{drop-cons}
-use Rattle.integers.proofs.Cast.{back_ok}
+use mathlib.Core.Path.{◌≡◌}
+use Prim.Native.Nat.{◌-◌}
+use lib.ListN.{length, drop}
 use Rattle.layouts.specs.Layout.{are_zeros}
 use Rattle.layouts.proofs.are_zeros.Given as goal
 

@@ -1,13 +1,11 @@
 -- `number_in` is the number in the bytes lent.
 -- Invariant: what n and the bytes from byte i on stand for is the number; n is below 2^(8 i), so no product or sum leaves 64 bits.
-use borrow.Author.Rules.{rules}
-use mathlib.Core.Path.{◌≡◌, refl}
-use Prim.Native.Nat.{◌*◌, ◌-◌, ◌^◌, ◌<◌}
+use mathlib.Core.Path.{refl}
 use native.Mathlib.Numerals.{add-one}
 use native.Mathlib.Omega.{arith}
-use lib.ListN.{length, drop, drop_of_length-le}
+use lib.ListN.{drop_of_length-le}
 use lib.Seq.{drop-cons}
-use Rattle.layouts.specs.Bytes.{big_from, big_number}
+use Rattle.layouts.specs.Bytes.{big_from}
 use Rattle.layouts.proofs.Numbers.{next_small, next_fits}
 use Rattle.layouts.proofs.number_in.Goals as goal
 

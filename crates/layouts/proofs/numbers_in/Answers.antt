@@ -1,11 +1,10 @@
 -- `numbers_in` leaves the numbers that stand in fields of the widths given.
 -- Invariant: the first i numbers stand, and those of the fields from byte `at` on are the rest (Seams).
-use borrow.Author.Rules.{rules}
-use Prim.Native.Nat.{◌+◌, ◌-◌, ◌≤◌}
+use Prim.Native.Nat.{◌+◌, ◌≤◌}
 use native.Mathlib.Omega.{arith}
 use lib.ListN.{length, get_or, length-take}
 use Rattle.integers.proofs.Cast.{back_ok}
-use Rattle.layouts.proofs.Seams.{seam_next, narrow_at, Picked, picked_none, picked_more, picked_all}
+use Rattle.layouts.proofs.Seams.{seam_next, narrow_at, picked_none, picked_more, picked_all}
 use Rattle.layouts.proofs.numbers_in.Goals as goal
 use Rattle.layouts.proofs.numbers_in.Goals.{In-loop-i}
 
@@ -15,7 +14,7 @@ loop-i-init c =
     picked_none s.args.widths.now s.args.bytes.now s.args.numbers.now s.requires.widths_len
 
 -- there are bytes for the field of a round
-room : (c : In-loop-i) → let s = c.before.before.before.before in c.before.loop-i.at + get_or s.args.widths.now c.before.loop-i.i 0 ≤ length s.args.bytes.now
+room : (c : In-loop-i) → let s = c.before.before.before.before in c.loop-i.at + get_or s.args.widths.now c.before.loop-i.i 0 ≤ length s.args.bytes.now
 room c = omega (arith, seam_next c.before.loop-i.invariant.seam c.loop-i-test.true)
 
 pub number_in-requires : goal.number_in-requires
@@ -31,10 +30,10 @@ loop-i-preserved c =
     (rw (back_ok c.of_bits.result c.of_bits.type_inv, c.of_bits.ensures, c.before.number_in.ensures))
 
 pub overflow_add-end : goal.overflow_add-end
-overflow_add-end c = omega (arith, room c.before)
+overflow_add-end c = omega (arith, room (goal.at.overflow_add-end c).In-loop-i)
 
 pub slice_bounds-number_in-end : goal.slice_bounds-number_in-end
-slice_bounds-number_in-end c = room c.before
+slice_bounds-number_in-end c = room (goal.at.slice_bounds-number_in-end c).In-loop-i
 
 pub returns : goal.returns
 returns c = picked_all c.before.loop-i.invariant c.loop-i-test.false

@@ -1,11 +1,8 @@
 -- `numbers_in` leaves the numbers that stand in fields of the widths given.
 -- Invariant: the first i numbers stand, and those of the fields from byte `at` on are the rest (Seams).
-use borrow.Author.Rules.{rules}
-use Prim.Native.Nat.{◌+◌, ◌-◌, ◌≤◌}
-use native.Mathlib.Omega.{arith}
-use lib.ListN.{length, get_or, length-take}
-use Rattle.integers.proofs.Cast.{back_ok}
-use Rattle.layouts.proofs.Seams.{seam_next, narrow_at, Picked, picked_none, picked_more, picked_all}
+use Prim.Native.Nat.{◌-◌}
+use lib.ListN.{length}
+use Rattle.layouts.proofs.Seams.{Picked}
 use Rattle.layouts.proofs.numbers_in.Given as goal
 
 abbrev pub invariant-loop-i : goal.invariant-loop-i

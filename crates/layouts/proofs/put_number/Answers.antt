@@ -1,11 +1,9 @@
 -- `put_number` leaves the low bytes of the number, as many as were lent, the high one first.
 -- Invariant: the bytes of `rest` that are still to come, before those that stand from byte i on, are the number's.
-use borrow.Author.Rules.{rules}
-use mathlib.Core.List.{◌++◌, append-nil}
+use mathlib.Core.List.{append-nil}
 use mathlib.Core.Path.{◌≡◌}
-use Prim.Native.Nat.{◌≤◌}
 use native.Mathlib.Omega.{arith}
-use lib.ListN.{length, drop, length-set}
+use lib.ListN.{length-set}
 use lib.Seq.{drop-length}
 use Rattle.layouts.specs.Bytes.{big_endian}
 use Rattle.layouts.proofs.Numbers.{next_byte}

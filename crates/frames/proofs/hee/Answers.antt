@@ -1,0 +1,43 @@
+-- `hee` gives the rows of HEE: X is the unit vector of the Earth's (x, y, 0), Y is (-X2, X1, 0), Z is (0, 0, 10^9).
+-- By what `on_ecliptic` and `unit` ensure; the parts of a unit vector are at most 10^9.
+use mathlib.Core.Path.{◌≡◌, subst, sym, ap, ◌∙◌}
+use mathlib.Core.List.{[], ◌∷◌}
+use Prim.Native.Nat.{ℕ}
+use lib.IntN.{pos}
+use Rattle.integers.proofs.Cast.{read}
+use Rattle.integers.proofs.Ring.{zero_minus}
+use Rattle.integers.proofs.Number.{Num, known, lit, sub_fits, sub}
+use Rattle.integers.specs.Triple.{at}
+use Rattle.vectors.specs.Vector.{unit_of}
+use Rattle.integers.specs.Triple.{PartsWithin}
+use Rattle.frames.specs.Frame.{on_ecliptic, hee_of, hee_rows}
+use Rattle.integers.proofs.Triples.{parts_more}
+use Rattle.frames.proofs.Rows.{ecliptic_small, unit_of_place}
+use Rattle.frames.proofs.hee.Goals as goal
+use Rattle.frames.proofs.hee.Goals.{After-unit-x}
+
+pub unit-x-requires : goal.unit-x-requires
+unit-x-requires c =
+    let t = c.before in
+    subst (PartsWithin 2000000000) (sym c.on_ecliptic.ensures) (parts_more (ecliptic_small t.args.earth t.requires) tt)
+
+-- the call's X is the definition's, so its parts are small
+X-is : (c : After-unit-x) → c.unit-x.result ≡ unit_of (on_ecliptic c.before.before.args.earth)
+X-is c = c.unit-x.ensures ∙ ap unit_of c.before.on_ecliptic.ensures
+
+X : (c : After-unit-x) (k : ℕ) → Num (read (at c.unit-x.result k)) (at c.unit-x.result k) 1000000000
+X c k =
+    let t = c.before.before in
+    known ((subst (PartsWithin 1000000000) (sym (X-is c)) (unit_of_place (on_ecliptic t.args.earth) (ecliptic_small t.args.earth t.requires))).part k) tt
+
+pub overflow_sub-result : goal.overflow_sub-result
+overflow_sub-result c = sub_fits (lit (pos 0)) (X c.before 1) tt
+
+pub returns : goal.returns
+unfolding hee_rows
+returns c =
+    let s = c.before.before in
+    let r = s.unit-x.result in
+    let y1 = (sub (lit (pos 0)) (X s 1) tt).is ∙ zero_minus (at r 1) in
+    let y2 = (X s 0).is in
+    (λ i. r ∷ (y1 i ∷ y2 i ∷ pos 0 ∷ []) ∷ (pos 0 ∷ pos 0 ∷ pos 1000000000 ∷ []) ∷ []) ∙ ap hee_of (X-is s)
