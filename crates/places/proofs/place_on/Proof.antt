@@ -39,14 +39,14 @@ module _ (s : tie.Start) where
   by : {b f : Bool} → is_body s.args.body ≡ b → is_frame s.args.frame ≡ f → place_if (is_body s.args.body) (is_frame s.args.frame) s.args.table s.args.body s.args.frame s.args.minute ≡ place_if b f s.args.table s.args.body s.args.frame s.args.minute
   by p q i = place_if (p i) (q i) s.args.table s.args.body s.args.frame s.args.minute
 
-body-test : (c : tie.After-is-body) → is_body c.before.args.body ≡ c.is_IsBody.result
-body-test c = sym (c.is_IsBody.ensures ∙ ap is_body (body_is c.before))
+body-test : (c : tie.After-is-body) → is_body c.before.args.body ≡ c.is_body.result
+body-test c = sym (c.is_body.ensures ∙ ap is_body (body_is c.before))
 
 returns : tie.Need-returns
-returns c = let d = c.before in sym (by d.before (body-test d ∙ not-true d.is_IsBody.result c.if1.true) refl)
+returns c = let d = c.before in sym (by d.before (body-test d ∙ not-true d.is_body.result c.if1.true) refl)
 
 has_body : (c : tie.Else1) → is_body c.before.before.args.body ≡ true
-has_body c = body-test c.before ∙ not-false c.before.is_IsBody.result c.if1.false
+has_body c = body-test c.before ∙ not-false c.before.is_body.result c.if1.false
 
 frame-test : (c : tie.After-is-frame) → is_frame c.before.before.before.args.frame ≡ c.is-frame.result
 frame-test c = sym (c.is-frame.ensures ∙ ap is_frame (frame_is c.before.before.before))

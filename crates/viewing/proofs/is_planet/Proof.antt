@@ -15,7 +15,7 @@ returns : tie.Need-returns
 unfolding is_planet
 returns c =
     let s = c.before.before in
-    let p = c.before.is_IsBody.ensures ∙ ap is_body (back s.args.body s.ranges.body) in
+    let p = c.before.is_body.ensures ∙ ap is_body (back s.args.body s.ranges.body) in
     let q = c.are-same.ensures ∙ ap (λ (z : ℤ). same z (pos 3)) (back s.args.body s.ranges.body) in
     λ i. p i && not (q i)
 

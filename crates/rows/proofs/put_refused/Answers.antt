@@ -1,0 +1,11 @@
+-- `put_refused` leaves the bytes of a refused row, and every byte after them as it was.
+-- The row that it makes has the refusal's number and zeros, and its bytes are the definition's (RoundTrip).
+use mathlib.Core.Path.{◌∙◌}
+use Rattle.integers.proofs.Cast.{back_ok}
+use Rattle.rows.proofs.RoundTrip.{a_refused_row_is_a_row_of_zeros}
+use Rattle.rows.proofs.put_refused.Goals as goal
+
+pub returns : goal.returns
+returns c =
+    let told = c.before.before.before.before in
+    simp (c.before.before.put_row.ensures, back_ok told.number.result told.number.type_inv ∙ told.number.ensures, a_refused_row_is_a_row_of_zeros)
