@@ -1,0 +1,10 @@
+-- `is_digit` is the test of the definition.
+-- By the outcome of its first half.
+use borrow.Author.Tests.{le-leb, lt-leb}
+use Rattle.listing_lines.proofs.is_digit.Goals as goal
+
+pub returns-then-b-ge48 : goal.returns-then-b-ge48
+returns-then-b-ge48 c = simp (le-leb _ _ c.if-b-ge48.true)
+
+pub returns-else-b-ge48 : goal.returns-else-b-ge48
+returns-else-b-ge48 c = simp (lt-leb _ _ c.if-b-ge48.false)

@@ -1,0 +1,33 @@
+-- `row` answers, and leaves its bytes, as the definition says.
+-- Its test is the definition's, and `put_answer` leaves the row of the date's answer.
+use borrow.Author.Rules.{rules}
+use mathlib.Core.Path.{◌≡◌, sym, ap, ◌∙◌}
+use lib.IntN.{ℤ}
+use Rattle.integers.proofs.Cast.{read, back, back_ok}
+use Rattle.places.specs.declared.PlaceAnswer.{PlaceAnswer}
+use Rattle.sheets.specs.Row.{answer_written, row_written}
+use Rattle.sheets.proofs.Laws.{row_short, row_by}
+use Rattle.sheets.proofs.row.Goals as goal
+use Rattle.sheets.proofs.row.Goals.{Start}
+
+pub returns-then-bytes-lt-ROW_BYTES : goal.returns-then-bytes-lt-ROW_BYTES
+returns-then-bytes-lt-ROW_BYTES c =
+    let s = c.before.before.before in
+    ap (λ (n : ℤ). (n, s.args.bytes.now)) (back_ok c.number.result c.number.type_inv ∙ c.number.ensures)
+    ∙ sym (row_short s.args.date s.args.body s.args.frame s.args.bytes.now c.before.if-bytes-lt-ROW_BYTES.true)
+
+-- the definition, of the numbers that the machine reads back
+as_read : (s : Start) → row_written s.args.date (read s.args.body) (read s.args.frame) s.args.bytes.now ≡ row_written s.args.date s.args.body s.args.frame s.args.bytes.now
+as_read s = λ i. row_written s.args.date (back s.args.body s.ranges.body i) (back s.args.frame s.ranges.frame i) s.args.bytes.now
+
+pub returns : goal.returns
+returns c =
+    let put = c.before.before in
+    let place = put.before.before in
+    let e = place.before.before.before in
+    let s = e.before.before in
+    ap (λ (n : ℤ). (n, put.put_answer.new.bytes)) (back_ok put.put_answer.result put.put_answer.type_inv)
+    ∙ put.put_answer.ensures
+    ∙ ap (λ (x : PlaceAnswer). answer_written (read s.args.body) (read s.args.frame) x s.args.bytes.now) place.place_after.ensures
+    ∙ sym (row_by s.args.date (read s.args.body) (read s.args.frame) s.args.bytes.now e.if-bytes-lt-ROW_BYTES.false)
+    ∙ as_read s
