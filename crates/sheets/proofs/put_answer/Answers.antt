@@ -10,27 +10,20 @@ use Rattle.sheets.specs.Row.{answer_written}
 use Rattle.sheets.proofs.put_answer.Goals as goal
 use Rattle.sheets.proofs.put_answer.Goals.{In-Found}
 
-minute_is : (c : In-Found) → read c.before.answer-1.given.0.0 ≡ c.before.answer-1.given.0.0
+minute_is : (c : In-Found) → read c.in-Found.minute ≡ c.in-Found.minute
 minute_is c = search rules
 
 pub returns-in-Found : goal.returns-in-Found
 returns-in-Found c =
-    let put = c.before.before in
-    let k = put.before.before in
-    let a = k.before in
-    let s = a.before.before.before in
-    let m = minute_is k in
-    ap (λ (n : ℤ). (n, put.put_found.new.bytes)) (back_ok put.put_found.result put.put_found.type_inv)
-    ∙ put.put_found.ensures
-    ∙ (λ i. answer_written (back s.args.body s.ranges.body i) (back s.args.frame s.ranges.frame i) (Found (m i) a.answer-1.given.0.1.0) s.args.bytes.now)
-    ∙ sym (ap (λ (x : PlaceAnswer). answer_written s.args.body s.args.frame x s.args.bytes.now) a.answer-1.given.1)
+    let m = minute_is (goal.at.returns-in-Found c).In-Found in
+    ap (λ (n : ℤ). (n, c.put_found.new.bytes)) (back_ok c.put_found.result c.put_found.type_inv)
+    ∙ c.put_found.ensures
+    ∙ (λ i. answer_written (back c.args.body c.ranges.body i) (back c.args.frame c.ranges.frame i) (Found (m i) c.in-Found.p) c.args.bytes.now)
+    ∙ sym (ap (λ (x : PlaceAnswer). answer_written c.args.body c.args.frame x c.args.bytes.now) c.in-Found.is)
 
 pub returns-in-Refused : goal.returns-in-Refused
 returns-in-Refused c =
-    let put = c.before.before in
-    let a = put.before.before.before in
-    let s = a.before.before.before in
-    ap (λ (n : ℤ). (n, put.put_refusal.new.bytes)) (back_ok put.put_refusal.result put.put_refusal.type_inv)
-    ∙ put.put_refusal.ensures
-    ∙ (λ i. answer_written (back s.args.body s.ranges.body i) (back s.args.frame s.ranges.frame i) (Refused a.answer-in-Refused-1.given.0.0) s.args.bytes.now)
-    ∙ sym (ap (λ (x : PlaceAnswer). answer_written s.args.body s.args.frame x s.args.bytes.now) a.answer-in-Refused-1.given.1)
+    ap (λ (n : ℤ). (n, c.put_refusal.new.bytes)) (back_ok c.put_refusal.result c.put_refusal.type_inv)
+    ∙ c.put_refusal.ensures
+    ∙ (λ i. answer_written (back c.args.body c.ranges.body i) (back c.args.frame c.ranges.frame i) (Refused c.in-Refused.refusal) c.args.bytes.now)
+    ∙ sym (ap (λ (x : PlaceAnswer). answer_written c.args.body c.args.frame x c.args.bytes.now) c.in-Refused.is)

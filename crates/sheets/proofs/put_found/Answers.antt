@@ -18,6 +18,4 @@ row_is s = search rules
 
 pub returns : goal.returns
 returns c =
-    let put = c.before.before in
-    let s = put.before.before.before.before.before.before in
-    ap (λ (l : List ℕ). (pos 0, l)) (put.put_good.ensures ∙ ap (λ (r : Row). row_bytes r ++ drop row_size s.args.bytes.now) (row_is s))
+    ap (λ (l : List ℕ). (pos 0, l)) (c.put_good.ensures ∙ ap (λ (r : Row). row_bytes r ++ drop row_size c.args.bytes.now) (row_is (goal.at.returns c).Start))

@@ -1,6 +1,5 @@
 -- `put_refusal` leaves a refused row, and gives the refusal's number.
 -- By what `put_refused` and `number` ensure.
-use borrow.Author.Rules.{rules}
 use mathlib.Core.Path.{◌∙◌}
 use Rattle.integers.proofs.Cast.{back_ok}
 use Rattle.sheets.proofs.put_refusal.Goals as goal

@@ -1,7 +1,5 @@
 -- `sheet` answers, and leaves its bytes, as the definition says.
 -- Its two tests are the definition's, and `fill` leaves the rows.
-use borrow.Author.Rules.{rules}
-use borrow.Author.Tests.{not-true, not-false}
 use mathlib.Core.Bool.{true}
 use mathlib.Core.Path.{◌≡◌, refl, sym, ap, ◌∙◌}
 use native.Mathlib.Omega.{arith}
@@ -18,45 +16,42 @@ as_read s = λ i. sheet_written s.args.start (back s.args.step s.ranges.step i) 
 
 pub returns-then-not-is_sheet : goal.returns-then-not-is_sheet
 returns-then-not-is_sheet c =
-    let asked = c.before.before in
-    let s = asked.before.before in
-    ap (λ (n : ℤ). (answered n 0, s.args.bytes.now)) (back_ok c.number.result c.number.type_inv ∙ c.number.ensures)
-    ∙ sym (no_sheet s.args.start (read s.args.step) (read s.args.body) (read s.args.frame) (read s.args.count) s.args.bytes.now (sym asked.is_sheet.ensures ∙ c.before.if-not-is_sheet.true))
-    ∙ as_read s
+    ap (λ (n : ℤ). (answered n 0, c.args.bytes.now)) (back_ok c.number.result c.number.type_inv ∙ c.number.ensures)
+    ∙ sym (no_sheet c.args.start (read c.args.step) (read c.args.body) (read c.args.frame) (read c.args.count) c.args.bytes.now (sym c.is_sheet.ensures ∙ c.if-not-is_sheet.true))
+    ∙ as_read (goal.at.returns-then-not-is_sheet c).Start
 
 -- past the first test it is a sheet
-is : (c : Else-not-is_sheet) → is_sheet (read c.before.before.before.args.step) (read c.before.before.before.args.count) ≡ true
-is c = sym c.before.is_sheet.ensures ∙ c.if-not-is_sheet.false
+is : (c : Else-not-is_sheet) → is_sheet (read c.args.step) (read c.args.count) ≡ true
+is c = sym c.is_sheet.ensures ∙ c.if-not-is_sheet.false
 
-within : (c : Else-not-is_sheet) → Taken (read c.before.before.before.args.step) (read c.before.before.before.args.count)
+within : (c : Else-not-is_sheet) → Taken (read c.args.step) (read c.args.count)
 within c = taken _ _ (is c)
 
 pub overflow_cast-n : goal.overflow_cast-n
-overflow_cast-n c = let t = within c in cast_fits refl t.count_range.low (omega (arith, t.count_small))
+overflow_cast-n c =
+    let t = within (goal.at.overflow_cast-n c).Else-not-is_sheet in
+    cast_fits refl t.count_range.low (omega (arith, t.count_small))
 
 pub overflow_mul-n : goal.overflow_mul-n
-overflow_mul-n c = let t = within c in record { fits = omega (arith, t.count_small) }
+overflow_mul-n c =
+    let t = within (goal.at.overflow_mul-n c).Else-not-is_sheet in
+    record { fits = omega (arith, t.count_small) }
 
 pub returns-then-bytes-n : goal.returns-then-bytes-n
 returns-then-bytes-n c =
-    let first = c.before.before in
-    let s = first.before.before.before in
-    ap (λ (n : ℤ). (answered n 0, s.args.bytes.now)) (back_ok c.number-then-bytes-n.result c.number-then-bytes-n.type_inv ∙ c.number-then-bytes-n.ensures)
-    ∙ sym (sheet_short s.args.start (read s.args.step) (read s.args.body) (read s.args.frame) (read s.args.count) s.args.bytes.now (is first) c.before.if-bytes-n.true)
-    ∙ as_read s
+    let first = (goal.at.returns-then-bytes-n c).Else-not-is_sheet in
+    ap (λ (n : ℤ). (answered n 0, c.args.bytes.now)) (back_ok c.number-then-bytes-n.result c.number-then-bytes-n.type_inv ∙ c.number-then-bytes-n.ensures)
+    ∙ sym (sheet_short c.args.start (read c.args.step) (read c.args.body) (read c.args.frame) (read c.args.count) c.args.bytes.now (is first) c.if-bytes-n.true)
+    ∙ as_read (goal.at.returns-then-bytes-n c).Start
 
 pub fill-requires : goal.fill-requires
 fill-requires c =
-    let second = c.before.before.before in
-    let t = within second.before in
-    record { sines_value = c.before.before.sines-sines.ensures; count_bound = (t.count_small, second.if-bytes-n.false); within = t.step_small }
+    let t = within (goal.at.fill-requires c).Else-not-is_sheet in
+    record { sines_value = c.sines-sines.ensures; count_bound = (t.count_small, c.if-bytes-n.false); within = t.step_small }
 
 pub returns : goal.returns
 returns c =
-    let filled = c.before.before in
-    let second = filled.before.before.before.before in
-    let first = second.before in
-    let s = first.before.before.before in
-    (λ i. (answered (pos 0) (filled.fill.ensures.1 i), filled.fill.ensures.0 i))
-    ∙ sym (sheet_by s.args.start (read s.args.step) (read s.args.body) (read s.args.frame) (read s.args.count) s.args.bytes.now (is first) second.if-bytes-n.false)
-    ∙ as_read s
+    let first = (goal.at.returns c).Else-not-is_sheet in
+    (λ i. (answered (pos 0) (c.fill.ensures.1 i), c.fill.ensures.0 i))
+    ∙ sym (sheet_by c.args.start (read c.args.step) (read c.args.body) (read c.args.frame) (read c.args.count) c.args.bytes.now (is first) c.if-bytes-n.false)
+    ∙ as_read (goal.at.returns c).Start
