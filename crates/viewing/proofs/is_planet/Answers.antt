@@ -1,6 +1,5 @@
 -- `is_planet` says whether a number is that of a body other than the Earth.
 -- The two tests, of the number read back.
-use borrow.Author.Rules.{rules}
 use mathlib.Core.Bool.{not, ◌&&◌}
 use mathlib.Core.Path.{ap, ◌∙◌}
 use lib.IntN.{ℤ, pos}

@@ -1,6 +1,5 @@
 -- `is_search` is the definition's test of a step and a count.
 -- The tests of a step and of a range, of the numbers read back.
-use borrow.Author.Rules.{rules}
 use mathlib.Core.Bool.{◌&&◌}
 use mathlib.Core.Path.{ap, ◌∙◌}
 use lib.IntN.{pos}

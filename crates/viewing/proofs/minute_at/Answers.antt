@@ -1,6 +1,5 @@
 -- `minute_at` is the minute of a date of a walk.
 -- Of 4,000 steps none leads further than 4·10^9 minutes.
-use borrow.Author.Rules.{rules}
 use lib.IntN.{pos, ◌*ℤ◌}
 use mir.Syntax.{w64}
 use mir.Val.{to_z}

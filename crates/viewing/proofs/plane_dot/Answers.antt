@@ -1,6 +1,5 @@
 -- `plane_dot` is the sum of two products of parts that are at most 10^9.
 -- Each product is at most 10^18, and both together fit (integers, Triples).
-use borrow.Author.Rules.{rules}
 use Rattle.integers.proofs.Number.{mul_fits, add_fits, add}
 use Rattle.integers.proofs.Triples.{part_num, parts_num}
 use Rattle.viewing.proofs.plane_dot.Goals as goal

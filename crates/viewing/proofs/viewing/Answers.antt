@@ -1,7 +1,6 @@
 -- `viewing` answers as the definition says.
 -- Its tests are the definition's, and on a span that is accepted every date is one of the table's interval.
 use borrow.Author.Rules.{rules}
-use borrow.Author.Tests.{not-true, not-false}
 use mathlib.Core.Bool.{Bool, true}
 use mathlib.Core.Path.{◌≡◌, refl, sym, ap, ◌∙◌}
 use native.Mathlib.Omega.{arith}
@@ -28,47 +27,40 @@ module _ (s : Start) where
   by e f = sym (λ i. viewing_by (e i) (f i) (read s.args.table) (read s.args.body) (read s.args.step) (nat_abs (read s.args.count))) ∙ as_read
 
 pub returns-then-not-is_search : goal.returns-then-not-is_search
-returns-then-not-is_search c = let t = c.before in by t.before (sym t.is_search.ensures ∙ c.if-not-is_search.true) refl
+returns-then-not-is_search c = by (goal.at.returns-then-not-is_search c).Start (sym c.is_search.ensures ∙ c.if-not-is_search.true) refl
 
-is : (c : Else-not-is_search) → is_search (read c.before.before.args.step) (read c.before.before.args.count) ≡ true
-is c = sym c.before.is_search.ensures ∙ c.if-not-is_search.false
+is : (c : Else-not-is_search) → is_search (read c.args.step) (read c.args.count) ≡ true
+is c = sym c.is_search.ensures ∙ c.if-not-is_search.false
 
-within : (c : Else-not-is_search) → Taken (read c.before.before.args.step) (read c.before.before.args.count)
-within c = taken (read c.before.before.args.step) (read c.before.before.args.count) (is c)
+within : (c : Else-not-is_search) → Taken (read c.args.step) (read c.args.count)
+within c = taken (read c.args.step) (read c.args.count) (is c)
 
 pub span_moment-requires : goal.span_moment-requires
-span_moment-requires c = (step_within (within c), count_within (within c))
+span_moment-requires c = let t = within (goal.at.span_moment-requires c).Else-not-is_search in (step_within t, count_within t)
 
 pub returns-in-Refused : goal.returns-in-Refused
-returns-in-Refused c =
-    let d = c.before in
-    let m = d.before.before in
-    let e = m.before in
-    by e.before.before (is e) (sym m.span_moment.ensures ∙ d.refusal-1.given.1)
+returns-in-Refused c = by (goal.at.returns-in-Refused c).Start (is (goal.at.returns-in-Refused c).Else-not-is_search) (sym c.in-Refused.ensures)
 
-minute_is : (c : In-Accepted) → read c.before.first-1.given.0.0 ≡ c.before.first-1.given.0.0
+minute_is : (c : In-Accepted) → read c.in-Accepted.first ≡ c.in-Accepted.first
 minute_is c = search rules
 
 -- the span of this arm
-span-told : (c : In-Accepted) → (let s = c.before.before.before.before.before.before in span_moment s.args.start (read s.args.table) (read s.args.step) (read s.args.count) ≡ Accepted (read c.before.first-1.given.0.0))
-span-told c = let d = c.before in sym d.before.before.span_moment.ensures ∙ d.first-1.given.1 ∙ ap Accepted (sym (minute_is c))
+span-told : (c : In-Accepted) → span_moment c.args.start (read c.args.table) (read c.args.step) (read c.args.count) ≡ Accepted (read c.in-Accepted.first)
+span-told c = sym c.in-Accepted.ensures ∙ ap Accepted (sym (minute_is c))
 
 pub overflow_cast-count : goal.overflow_cast-count
 overflow_cast-count c =
-    let e = c.before.before.before.before in
-    let n = read e.before.before.args.count in
-    let t = (within e).count_range in
+    let n = read c.args.count in
+    let t = (within (goal.at.overflow_cast-count c).Else-not-is_search).count_range in
     cast_fits {x = n} {z = n} refl (omega (zarith, t.low)) (omega (arith, range_most 1 n t))
 
 pub viewing_from-requires : goal.viewing_from-requires
 viewing_from-requires c =
-    let e = c.before.before.before.before in
-    let s = e.before.before in
-    span_fits s.args.start (read s.args.table) (read s.args.step) (read s.args.count) (read c.before.first-1.given.0.0) (within e)
-    (span_is s.args.start (read s.args.table) (read s.args.step) (read s.args.count) (read c.before.first-1.given.0.0) (span-told c))
+    let first = read c.in-Accepted.first in
+    span_fits c.args.start (read c.args.table) (read c.args.step) (read c.args.count) first (within (goal.at.viewing_from-requires c).Else-not-is_search)
+    (span_is c.args.start (read c.args.table) (read c.args.step) (read c.args.count) first (span-told (goal.at.viewing_from-requires c).In-Accepted))
 
 pub returns-in-Accepted : goal.returns-in-Accepted
 returns-in-Accepted c =
-    let k = c.before in
-    let e = k.before.before.before.before in
-    c.viewing_from.ensures ∙ by e.before.before (is e) (span-told k)
+    c.viewing_from.ensures
+    ∙ by (goal.at.returns-in-Accepted c).Start (is (goal.at.returns-in-Accepted c).Else-not-is_search) (span-told (goal.at.returns-in-Accepted c).In-Accepted)

@@ -1,7 +1,5 @@
 -- `viewing_from` gives refusal 3, else the answer of the search on a span that is accepted.
 -- The search's place is the definition's; where it is not 0 its date is found.
-use borrow.Author.Rules.{rules}
-use borrow.Author.Tests.{not-true, not-false}
 use mathlib.Core.Bool.{Bool, true}
 use mathlib.Core.Path.{◌≡◌, subst⁻¹, sym, ap, ◌∙◌}
 use Prim.Native.Nat.{ℕ, ◌-◌, ◌≤◌}
