@@ -11,29 +11,26 @@ use Rattle.integers.proofs.Cast.{read}
 use Rattle.integers.proofs.Same.{same_by_bits, other_by_bits}
 use Rattle.dates.specs.declared.Date.{Date}
 use Rattle.dates.specs.declared.Date.TheVariants.{Julian, Minutes}
-use Rattle.answers.proofs.date_of.Statement.{statement}
-use Rattle.answers.proofs.date_of.Tie as tie
+use Rattle.answers.proofs.date_of.Goals as goal
+use Rattle.answers.proofs.date_of.Goals.{Start}
 
-form-fits : (s : tie.Start) → SFits w64 s.args.date.form
+form-fits : (s : Start) → SFits w64 s.args.date.form
 form-fits s = search rules
 
 -- the date by the outcome of the test
-abbrev by : tie.Start → Bool → Date
+abbrev by : Start → Bool → Date
 by s b = cond b (Julian s.args.date.julian) (Minutes s.args.date.minutes)
 
-returns : tie.Need-returns
-returns c =
+pub returns-then-date-eq0 : goal.returns-then-date-eq0
+returns-then-date-eq0 c =
     let s = c.before.before.before in
-    sym (ap (by s) (same_by_bits (form-fits s) (w_fits (w_lit (pos 0)) tt) c.if1.true))
+    sym (ap (by s) (same_by_bits (form-fits s) (w_fits (w_lit (pos 0)) tt) c.if-date-eq0.true))
 
-minutes-is : (s : tie.Start) → read s.args.date.minutes ≡ s.args.date.minutes
+minutes-is : (s : Start) → read s.args.date.minutes ≡ s.args.date.minutes
 minutes-is s = search rules
 
-returns-2 : tie.Need-returns-2
-returns-2 c =
+pub returns : goal.returns
+returns c =
     let e = c.before in
     let s = e.before.before.before in
-    ap Minutes (minutes-is s) ∙ sym (ap (by s) (other_by_bits (form-fits s) (w_fits (w_lit (pos 0)) tt) e.if1.false))
-
-pub date-of-spec : {M : Type 1} → statement M
-date-of-spec = tie.close (tie.spec returns returns-2)
+    ap Minutes (minutes-is s) ∙ sym (ap (by s) (other_by_bits (form-fits s) (w_fits (w_lit (pos 0)) tt) e.if-date-eq0.false))
