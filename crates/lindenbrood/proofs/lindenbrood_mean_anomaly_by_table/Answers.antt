@@ -1,0 +1,14 @@
+-- `lindenbrood_mean_anomaly_by_table` is the answer for the mean anomaly of a body by a table.
+-- By what the calls ensure; the numbers are read back once.
+use mathlib.Core.Path.{ap, ◌∙◌}
+use Rattle.integers.proofs.Cast.{back}
+use Rattle.orbits.specs.Answer.{mean_answer}
+use Rattle.answers.specs.Answer.{c_angle}
+use Rattle.lindenbrood.proofs.lindenbrood_mean_anomaly_by_table.Goals as goal
+
+pub returns : goal.returns
+returns c =
+    let a = c.before in
+    let d = a.before in
+    let s = d.before in
+    c.angle_of.ensures ∙ ap c_angle (a.mean_anomaly.ensures ∙ (λ i. mean_answer (d.date_of.ensures i) (back s.args.table s.ranges.table i) (back s.args.body s.ranges.body i)))
