@@ -11,11 +11,11 @@ use Rattle.angles.proofs.Turns.{one_turn_within, one_turn_again, one_turn_sum}
 use Rattle.angles.proofs.cosine.Goals as goal
 use Rattle.angles.proofs.cosine.Goals.{After-quarter_on, After-within_turn, Start}
 
-angle-is : (c : Start) → read c.args.angle.0 ≡ c.args.angle.0
-angle-is c = search rules
+angle_is : (c : Start) → read c.args.angle.0 ≡ c.args.angle.0
+angle_is c = search rules
 
 turned : (c : After-within_turn) → read c.within_turn.result ≡ one_turn c.before.before.args.angle.0
-turned c = back_ok c.within_turn.result c.within_turn.type_inv ∙ c.within_turn.ensures ∙ ap one_turn (angle-is c.before.before)
+turned c = back_ok c.within_turn.result c.within_turn.type_inv ∙ c.within_turn.ensures ∙ ap one_turn (angle_is c.before.before)
 
 pub quarter_on-requires : goal.quarter_on-requires
 quarter_on-requires c =

@@ -30,13 +30,13 @@ overflow_sub-result c = sub_fits (t c.before) (lit (pos 270000000)) tt
 on : (z : ℤ) → negsuc 179999999 ≤ℤ z → z <ℤ pos 90000000 → z +ℤ pos 90000000 ≡ one_turn (z +ℤ pos 90000000)
 on z h l = sym (in_turn (z +ℤ pos 90000000) (omega (zarith, d_add z (pos 90000000), h)) (omega (zarith, d_add z (pos 90000000), l)))
 
-back-a-turn : (z : ℤ) → z +ℤ pos 90000000 +ℤ negsuc 0 *ℤ pos 360000000 ≡ z -ℤ pos 270000000
-back-a-turn z = omega (zarith, d_add z (pos 90000000), d_add (z +ℤ pos 90000000) (negsuc 359999999), d_minus z (pos 270000000))
+back_a_turn : (z : ℤ) → z +ℤ pos 90000000 +ℤ negsuc 0 *ℤ pos 360000000 ≡ z -ℤ pos 270000000
+back_a_turn z = omega (zarith, d_add z (pos 90000000), d_add (z +ℤ pos 90000000) (negsuc 359999999), d_minus z (pos 270000000))
 
 round : (z : ℤ) → pos 90000000 ≤ℤ z → z <ℤ pos 180000000 → z -ℤ pos 270000000 ≡ one_turn (z +ℤ pos 90000000)
 round z h l =
     sym (in_turn (z -ℤ pos 270000000) (omega (zarith, d_minus z (pos 270000000), h)) (omega (zarith, d_minus z (pos 270000000), l)))
-    ∙ ap one_turn (sym (back-a-turn z)) ∙ one_turn_turns (z +ℤ pos 90000000) (negsuc 0)
+    ∙ ap one_turn (sym (back_a_turn z)) ∙ one_turn_turns (z +ℤ pos 90000000) (negsuc 0)
 
 pub returns-then-t-lt90000000 : goal.returns-then-t-lt90000000
 returns-then-t-lt90000000 c =

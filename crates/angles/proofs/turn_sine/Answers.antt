@@ -14,11 +14,11 @@ use Rattle.angles.proofs.turn_sine.Goals as goal
 use Rattle.angles.proofs.turn_sine.Goals.{After-half_sine, After-size, Start}
 
 -- the argument as the machine reads it back
-t-is : (c : Start) → read c.args.t ≡ c.args.t
-t-is c = back c.args.t c.ranges.t
+t_is : (c : Start) → read c.args.t ≡ c.args.t
+t_is c = back c.args.t c.ranges.t
 
 sized : (c : After-size) → c.size.result ≡ nat_abs c.before.args.t
-sized c = c.size.ensures ∙ ap nat_abs (t-is c.before)
+sized c = c.size.ensures ∙ ap nat_abs (t_is c.before)
 
 pub half_sine-requires : goal.half_sine-requires
 half_sine-requires c = record { sines_value = c.before.requires.sines_value; t_bound = subst (λ (n : ℕ). n ≤ 180000000) (sym (sized c)) c.before.requires.within.within }
@@ -35,4 +35,4 @@ pub returns : goal.returns
 returns c =
     let s = c.before.before.before in
     back_ok c.with_sign.result c.with_sign.type_inv ∙ c.with_sign.ensures
-    ∙ (λ i. signed (lt_z (t-is s i) (pos 0)) (halved c.before i)) ∙ by_sign s.args.t (half_sine (nat_abs s.args.t))
+    ∙ (λ i. signed (lt_z (t_is s i) (pos 0)) (halved c.before i)) ∙ by_sign s.args.t (half_sine (nat_abs s.args.t))

@@ -30,11 +30,11 @@ returns-then-r-lt180000000 c =
     let h = less (r c.before) (lit (pos 180000000)) c.if-r-lt180000000.true in
     (r c.before).is ∙ sym (one_turn_first t (omega (zarith, h)))
 
-less-a-turn : (n : ℕ) → n < 360000000 → pos n -ℤ pos 360000000 ≡ negsuc (359999999 - n)
-less-a-turn n h = omega (zarith, d_minus (pos n) (pos 360000000))
+less_a_turn : (n : ℕ) → n < 360000000 → pos n -ℤ pos 360000000 ≡ negsuc (359999999 - n)
+less_a_turn n h = omega (zarith, d_minus (pos n) (pos 360000000))
 
 pub returns-else-r-lt180000000 : goal.returns-else-r-lt180000000
 returns-else-r-lt180000000 c =
     let t = c.before.before.args.t in
     let h = not_less (r c.before) (lit (pos 180000000)) c.if-r-lt180000000.false in
-    (sub (r c.before) (lit (pos 360000000)) tt).is ∙ less-a-turn (turn t) (turn_below t) ∙ sym (one_turn_second t (omega (zarith, h)))
+    (sub (r c.before) (lit (pos 360000000)) tt).is ∙ less_a_turn (turn t) (turn_below t) ∙ sym (one_turn_second t (omega (zarith, h)))

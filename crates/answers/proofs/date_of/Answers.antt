@@ -14,8 +14,8 @@ use Rattle.dates.specs.declared.Date.TheVariants.{Julian, Minutes}
 use Rattle.answers.proofs.date_of.Goals as goal
 use Rattle.answers.proofs.date_of.Goals.{Start}
 
-form-fits : (s : Start) → SFits w64 s.args.date.form
-form-fits s = search rules
+form_fits : (s : Start) → SFits w64 s.args.date.form
+form_fits s = search rules
 
 -- the date by the outcome of the test
 abbrev by : Start → Bool → Date
@@ -24,13 +24,13 @@ by s b = cond b (Julian s.args.date.julian) (Minutes s.args.date.minutes)
 pub returns-then-date-eq0 : goal.returns-then-date-eq0
 returns-then-date-eq0 c =
     let s = c.before.before.before in
-    sym (ap (by s) (same_by_bits (form-fits s) (w_fits (w_lit (pos 0)) tt) c.if-date-eq0.true))
+    sym (ap (by s) (same_by_bits (form_fits s) (w_fits (w_lit (pos 0)) tt) c.if-date-eq0.true))
 
-minutes-is : (s : Start) → read s.args.date.minutes ≡ s.args.date.minutes
-minutes-is s = search rules
+minutes_is : (s : Start) → read s.args.date.minutes ≡ s.args.date.minutes
+minutes_is s = search rules
 
 pub returns : goal.returns
 returns c =
     let e = c.before in
     let s = e.before.before.before in
-    ap Minutes (minutes-is s) ∙ sym (ap (by s) (other_by_bits (form-fits s) (w_fits (w_lit (pos 0)) tt) e.if-date-eq0.false))
+    ap Minutes (minutes_is s) ∙ sym (ap (by s) (other_by_bits (form_fits s) (w_fits (w_lit (pos 0)) tt) e.if-date-eq0.false))

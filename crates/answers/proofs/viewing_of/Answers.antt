@@ -8,12 +8,12 @@ use Rattle.answers.specs.Answer.{searched, c_viewing}
 use Rattle.answers.proofs.viewing_of.Goals as goal
 use Rattle.answers.proofs.viewing_of.Goals.{In-Found}
 
-minutes-read : (c : In-Found) → read c.in-Found.minutes ≡ c.in-Found.minutes
-minutes-read c = search rules
+minutes_read : (c : In-Found) → read c.in-Found.minutes ≡ c.in-Found.minutes
+minutes_read c = search rules
 
 pub returns-in-Found : goal.returns-in-Found
 returns-in-Found c =
-    c.searched.ensures ∙ ap (λ (m : ℤ). searched (pos 0) m c.in-Found.looked) (minutes-read (goal.at.returns-in-Found c).In-Found) ∙ sym (ap c_viewing c.in-Found.is)
+    c.searched.ensures ∙ ap (λ (m : ℤ). searched (pos 0) m c.in-Found.looked) (minutes_read (goal.at.returns-in-Found c).In-Found) ∙ sym (ap c_viewing c.in-Found.is)
 
 pub returns-in-Refused : goal.returns-in-Refused
 returns-in-Refused c =

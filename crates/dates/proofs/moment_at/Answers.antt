@@ -13,7 +13,7 @@ use Rattle.dates.specs.Moment.{covers, tested_if, moment_at}
 use Rattle.dates.specs.Reach.{Held, near_minute}
 use Rattle.dates.proofs.Laws.{not_finite, at_sum, by_test}
 use Rattle.dates.proofs.moment_at.Goals as goal
-use Rattle.dates.proofs.moment_at.Goals.{After-is_from_to, In-At, Start}
+use Rattle.dates.proofs.moment_at.Goals.{In-At}
 
 pub returns-in_default : goal.returns-in_default
 returns-in_default c =

@@ -17,12 +17,12 @@ use Rattle.integers.proofs.Number.{Num, lit, arg, of_unsigned, mul, mul_fits, ad
 use Rattle.dates.proofs.rounded.Goals as goal
 use Rattle.dates.proofs.rounded.Goals.{Start}
 
-shift-is-floor : (z : ℤ) (m : ℕ) → shr_z z m ≡ floor_div z m
-shift-is-floor (pos n) m = refl
-shift-is-floor (negsuc n) m = refl
+shift_is_floor : (z : ℤ) (m : ℕ) → shr_z z m ≡ floor_div z m
+shift_is_floor (pos n) m = refl
+shift_is_floor (negsuc n) m = refl
 
 shifted : {x z : ℤ} {n : ℕ} (m : ℕ) → Num x z n → T (ltb n (2 ^ 63)) → read (shr_z x m) ≡ floor_div z m
-shifted {x} {z} m p t = ap read (shift-is-floor x m ∙ (λ i. floor_div (p.is i) m)) ∙ back (floor_div z m) (floor_fits z m (w_fits p.small t))
+shifted {x} {z} m p t = ap read (shift_is_floor x m ∙ (λ i. floor_div (p.is i) m)) ∙ back (floor_div z m) (floor_fits z m (w_fits p.small t))
 
 one_shifted : (v : ℕ) → v ≤ 59 → 1 * 2 ^ v % 2 ^ 64 ≡ 2 ^ v
 one_shifted v h = shl_exact 1 v 64 (omega arith) (omega arith) ∙ one-mul (2 ^ v)

@@ -20,13 +20,13 @@ pub returns-then-frame-eq1 : goal.returns-then-frame-eq1
 unfolding hae_turned
 returns-then-frame-eq1 c = rw (same_by_bits c.before.ranges.frame (w_fits (w_lit (pos 1)) tt) c.if-frame-eq1.true)
 
-has-rows : (c : Else-frame-eq1) → HasRows c.before.args.frame
-has-rows c = past_hae c.before.args.frame c.before.requires.known_frame (λ e. c.if-frame-eq1.false (ap (of_z w64) e))
+has_rows_lem : (c : Else-frame-eq1) → HasRows c.before.args.frame
+has_rows_lem c = past_hae c.before.args.frame c.before.requires.known_frame (λ e. c.if-frame-eq1.false (ap (of_z w64) e))
 
 pub rotation-requires : goal.rotation-requires
 rotation-requires c =
     let t = c.before in
-    record { has_rows = subst HasRows (sym (back t.args.frame t.ranges.frame)) (has-rows c); parts_within = t.requires.earth_fits.parts }
+    record { has_rows = subst HasRows (sym (back t.args.frame t.ranges.frame)) (has_rows_lem c); parts_within = t.requires.earth_fits.parts }
 
 -- the rows that the calls gave are the definition's
 rows_are : (c : After-way) → c.way.result ≡ way_of c.before.before.before.args.back (rotation_of c.before.before.before.args.frame c.before.before.before.args.earth)
@@ -39,7 +39,7 @@ applied-requires c =
     let e = c.before.before in
     let t = e.before in
     subst (λ (x : List (List ℤ)). TurnFits x t.args.v) (sym (rows_are c))
-    (hae_turn_fits t.args.earth t.args.back t.args.frame t.args.v (has-rows e) t.requires.earth_fits t.requires.no_longer)
+    (hae_turn_fits t.args.earth t.args.back t.args.frame t.args.v (has_rows_lem e) t.requires.earth_fits t.requires.no_longer)
 
 pub returns : goal.returns
 unfolding hae_turned

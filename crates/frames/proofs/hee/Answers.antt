@@ -22,13 +22,13 @@ unit-x-requires c =
     subst (PartsWithin 2000000000) (sym c.on_ecliptic.ensures) (parts_more (ecliptic_small t.args.earth t.requires) tt)
 
 -- the call's X is the definition's, so its parts are small
-X-is : (c : After-unit-x) → c.unit-x.result ≡ unit_of (on_ecliptic c.before.before.args.earth)
-X-is c = c.unit-x.ensures ∙ ap unit_of c.before.on_ecliptic.ensures
+X_is : (c : After-unit-x) → c.unit-x.result ≡ unit_of (on_ecliptic c.before.before.args.earth)
+X_is c = c.unit-x.ensures ∙ ap unit_of c.before.on_ecliptic.ensures
 
 X : (c : After-unit-x) (k : ℕ) → Num (read (at c.unit-x.result k)) (at c.unit-x.result k) 1000000000
 X c k =
     let t = c.before.before in
-    known ((subst (PartsWithin 1000000000) (sym (X-is c)) (unit_of_place (on_ecliptic t.args.earth) (ecliptic_small t.args.earth t.requires))).part k) tt
+    known ((subst (PartsWithin 1000000000) (sym (X_is c)) (unit_of_place (on_ecliptic t.args.earth) (ecliptic_small t.args.earth t.requires))).part k) tt
 
 pub overflow_sub-result : goal.overflow_sub-result
 overflow_sub-result c = sub_fits (lit (pos 0)) (X c.before 1) tt
@@ -40,4 +40,4 @@ returns c =
     let r = s.unit-x.result in
     let y1 = (sub (lit (pos 0)) (X s 1) tt).is ∙ zero_minus (at r 1) in
     let y2 = (X s 0).is in
-    (λ i. r ∷ (y1 i ∷ y2 i ∷ pos 0 ∷ []) ∷ (pos 0 ∷ pos 0 ∷ pos 1000000000 ∷ []) ∷ []) ∙ ap hee_of (X-is s)
+    (λ i. r ∷ (y1 i ∷ y2 i ∷ pos 0 ∷ []) ∷ (pos 0 ∷ pos 0 ∷ pos 1000000000 ∷ []) ∷ []) ∙ ap hee_of (X_is s)

@@ -17,25 +17,25 @@ pub cross-requires : goal.cross-requires
 cross-requires c =
     let t = c.before.before in record { parts_within = subst (PartsWithin 1000000000) (sym c.before.solar_axis-axis.ensures) axis_small; parts_within_2 = subst (PartsWithin 1000000000) (sym c.unit.ensures) (unit_of_place t.args.earth t.requires) }
 
-across-is : (c : After-cross) → c.cross.result ≡ axis_cross c.before.before.before.args.earth
-across-is c = c.cross.ensures ∙ (λ i. cross_of (c.before.before.solar_axis-axis.ensures i) (c.before.unit.ensures i))
+across_is : (c : After-cross) → c.cross.result ≡ axis_cross c.before.before.before.args.earth
+across_is c = c.cross.ensures ∙ (λ i. cross_of (c.before.before.solar_axis-axis.ensures i) (c.before.unit.ensures i))
 
 pub unit-y-requires : goal.unit-y-requires
 unit-y-requires c =
     let t = c.before.before.before in
-    subst (PartsWithin 2000000000) (sym (across-is c)) (across_small t.args.earth t.requires)
+    subst (PartsWithin 2000000000) (sym (across_is c)) (across_small t.args.earth t.requires)
 
-Y-is : (c : After-unit-y) → c.unit-y.result ≡ unit_of (axis_cross c.before.before.before.before.args.earth)
-Y-is c = c.unit-y.ensures ∙ ap unit_of (across-is c.before)
+Y_is : (c : After-unit-y) → c.unit-y.result ≡ unit_of (axis_cross c.before.before.before.before.args.earth)
+Y_is c = c.unit-y.ensures ∙ ap unit_of (across_is c.before)
 
 pub cross-requires-2 : goal.cross-requires-2
 cross-requires-2 c =
-    let t = c.before.before.before.before in record { parts_within = subst (PartsWithin 1000000000) (sym (Y-is c)) (across_unit_small t.args.earth t.requires); parts_within_2 = subst (PartsWithin 1000000000) (sym c.before.before.before.solar_axis-axis.ensures) axis_small }
+    let t = c.before.before.before.before in record { parts_within = subst (PartsWithin 1000000000) (sym (Y_is c)) (across_unit_small t.args.earth t.requires); parts_within_2 = subst (PartsWithin 1000000000) (sym c.before.before.before.solar_axis-axis.ensures) axis_small }
 
 pub returns : goal.returns
 unfolding heeq_rows
 returns c =
     let s = c.before in
     let a = s.before.before.before.solar_axis-axis.ensures in
-    let x = c.cross-2.ensures ∙ (λ i. cross_of (Y-is s i) (a i)) in
-    λ i. x i ∷ Y-is s i ∷ a i ∷ []
+    let x = c.cross-2.ensures ∙ (λ i. cross_of (Y_is s i) (a i)) in
+    λ i. x i ∷ Y_is s i ∷ a i ∷ []

@@ -31,8 +31,8 @@ hae_turned-requires c =
     record { known_frame = search rules; earth_fits = subst (λ (f : ℤ). EarthFits f t.args.earth) (sym (from_is t)) t.requires.known_frame.1; no_longer = no_longer_than 1000000000 1732052000 t.args.v t.requires.parts_within tt }
 
 -- what the first turn gave is the definition's
-on-the-way : (c : After-hae_turned) → c.hae_turned.result ≡ hae_turned true c.before.before.args.from c.before.before.args.earth c.before.before.args.v
-on-the-way c =
+on_the_way : (c : After-hae_turned) → c.hae_turned.result ≡ hae_turned true c.before.before.args.from c.before.before.args.earth c.before.before.args.v
+on_the_way c =
     let t = c.before.before in
     c.hae_turned.ensures ∙ ap (λ (f : ℤ). hae_turned true f t.args.earth t.args.v) (from_is t)
 
@@ -41,12 +41,12 @@ hae_turned-requires-2 c =
     let t = c.before.before in
     let v = t.args.v in
     let l = hae_turned_long t.args.earth true t.args.from 1732050808 1732051998000000000 1732052000 v t.requires.known_frame.0 t.requires.known_frame.1 (no_longer_than 1000000000 1732050808 v t.requires.parts_within tt) tt tt tt in
-    record { known_frame = search rules; earth_fits = subst (λ (f : ℤ). EarthFits f t.args.earth) (sym (to_is t)) t.requires.known_frame_2.1; no_longer = subst (NoLonger 1732052000) (sym (on-the-way c)) l }
+    record { known_frame = search rules; earth_fits = subst (λ (f : ℤ). EarthFits f t.args.earth) (sym (to_is t)) t.requires.known_frame_2.1; no_longer = subst (NoLonger 1732052000) (sym (on_the_way c)) l }
 
 pub returns : goal.returns
 unfolding turned_between
 returns c =
     let s = c.before.before in
     let t = s.before in
-    c.hae_turned-2.ensures ∙ (λ i. hae_turned false (to_is t i) t.args.earth (on-the-way c.before i))
+    c.hae_turned-2.ensures ∙ (λ i. hae_turned false (to_is t i) t.args.earth (on_the_way c.before i))
     ∙ rw (other_by_bits t.ranges.from t.ranges.to s.if-from-to.false)

@@ -36,42 +36,42 @@ module _ (a b : ℤ) (f : SFits w64 a) (g : SFits w64 b) where
   one_side true false r s t = absurd (differ t)
   one_side false true r s t = absurd (differ t)
 
-  two-sides : (p q : Bool) → lt_z a (pos 0) ≡ p → lt_z b (pos 0) ≡ q → beq p q ≡ false → Across a b
-  two-sides true true r s t = absurd (differ (sym t))
-  two-sides false false r s t = absurd (differ (sym t))
-  two-sides true false r s t = from_below a b (omega (zarith, r)) (omega (zarith, s)) f g
-  two-sides false true r s t = turned a b (from_below b a (omega (zarith, s)) (omega (zarith, r)) g f)
+  two_sides : (p q : Bool) → lt_z a (pos 0) ≡ p → lt_z b (pos 0) ≡ q → beq p q ≡ false → Across a b
+  two_sides true true r s t = absurd (differ (sym t))
+  two_sides false false r s t = absurd (differ (sym t))
+  two_sides true false r s t = from_below a b (omega (zarith, r)) (omega (zarith, s)) f g
+  two_sides false true r s t = turned a b (from_below b a (omega (zarith, s)) (omega (zarith, r)) g f)
 
 module _ (s : Start) where
-  a-is : read s.args.a ≡ s.args.a
-  a-is = back s.args.a s.ranges.a
+  a_is : read s.args.a ≡ s.args.a
+  a_is = back s.args.a s.ranges.a
 
-  b-is : read s.args.b ≡ s.args.b
-  b-is = back s.args.b s.ranges.b
+  b_is : read s.args.b ≡ s.args.b
+  b_is = back s.args.b s.ranges.b
 
   -- the test, of the numbers themselves
   told : {t : Bool} → beq (lt_z (read s.args.a) (pos 0)) (lt_z (read s.args.b) (pos 0)) ≡ t → beq (lt_z s.args.a (pos 0)) (lt_z s.args.b (pos 0)) ≡ t
-  told e = (λ i. beq (lt_z (sym a-is i) (pos 0)) (lt_z (sym b-is i) (pos 0))) ∙ e
+  told e = (λ i. beq (lt_z (sym a_is i) (pos 0)) (lt_z (sym b_is i) (pos 0))) ∙ e
 
 fits : (c : Then-a-b) → SFits w64 (c.before.args.a -ℤ c.before.args.b)
 fits c = let s = c.before in one_side s.args.a s.args.b s.ranges.a s.ranges.b _ _ refl refl (told s c.if-a-b.true)
 
 pub overflow_sub-a : goal.overflow_sub-a
-overflow_sub-a c = fits₂ ◌-ℤ◌ (a-is c.before) (b-is c.before) (fits c)
+overflow_sub-a c = fits₂ ◌-ℤ◌ (a_is c.before) (b_is c.before) (fits c)
 
 pub returns-then-a-b : goal.returns-then-a-b
 returns-then-a-b c =
     let s = c.before.before in
-    c.size.ensures ∙ ap nat_abs (val₂ ◌-ℤ◌ (a-is s) (b-is s) (fits c.before))
+    c.size.ensures ∙ ap nat_abs (val₂ ◌-ℤ◌ (a_is s) (b_is s) (fits c.before))
 
 -- both sizes
 sizes : (c : After-size-else-a-b-2) → (let s = c.before.before.before in c.before.size-else-a-b.result + c.size-else-a-b-2.result ≡ nat_abs s.args.a + nat_abs s.args.b)
 sizes c =
     let s = c.before.before.before in
-    λ i. (c.before.size-else-a-b.ensures ∙ ap nat_abs (a-is s)) i + (c.size-else-a-b-2.ensures ∙ ap nat_abs (b-is s)) i
+    λ i. (c.before.size-else-a-b.ensures ∙ ap nat_abs (a_is s)) i + (c.size-else-a-b-2.ensures ∙ ap nat_abs (b_is s)) i
 
 across : (c : Else-a-b) → Across c.before.args.a c.before.args.b
-across c = let s = c.before in two-sides s.args.a s.args.b s.ranges.a s.ranges.b _ _ refl refl (told s c.if-a-b.false)
+across c = let s = c.before in two_sides s.args.a s.args.b s.ranges.a s.ranges.b _ _ refl refl (told s c.if-a-b.false)
 
 pub overflow_add-result : goal.overflow_add-result
 overflow_add-result c = record { fits = omega (arith, sizes c, (across c.before.before).fits) }

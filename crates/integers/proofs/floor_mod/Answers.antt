@@ -19,25 +19,25 @@ pub nonzero_rem-r : goal.nonzero_rem-r
 nonzero_rem-r c = div_need c.args.a c.args.d c.ranges.a c.ranges.d c.requires
 
 -- what the floor leaves fits, since d does
-mod-fits : (a : ℤ) (m : ℕ) → 0 < m → SFits w64 (pos m) → SFits w64 (floor_mod a m)
-mod-fits a zero p f = absurd (omega arith)
-mod-fits a (suc m) p f = omega (zarith, mod_low a m, mod_high a m)
+mod_fits : (a : ℤ) (m : ℕ) → 0 < m → SFits w64 (pos m) → SFits w64 (floor_mod a m)
+mod_fits a zero p f = absurd (omega arith)
+mod_fits a (suc m) p f = omega (zarith, mod_low a m, mod_high a m)
 
-more-fits : (c : Then-r-lt0) → SFits w64 (rem_z c.before.args.a (pos (nat_abs c.before.args.d)) +ℤ pos (nat_abs c.before.args.d))
-more-fits c =
+more_fits : (c : Then-r-lt0) → SFits w64 (rem_z c.before.args.a (pos (nat_abs c.before.args.d)) +ℤ pos (nat_abs c.before.args.d))
+more_fits c =
     let s = c.before in
     subst (SFits w64) (sym (floor_below s.args.a s.args.d s.ranges.a s.ranges.d s.requires c.if-r-lt0.true).1)
-    (mod-fits s.args.a (nat_abs s.args.d) (abs_pos s.args.d s.requires) (rw (pos_abs s.args.d s.requires) s.ranges.d))
+    (mod_fits s.args.a (nat_abs s.args.d) (abs_pos s.args.d s.requires) (rw (pos_abs s.args.d s.requires) s.ranges.d))
 
 pub overflow_add-result : goal.overflow_add-result
 overflow_add-result c =
     let s = c.before in
-    fits₂ ◌+ℤ◌ (rest s.args.a s.args.d s.ranges.a s.ranges.d s.requires) (read_divisor s.args.a s.args.d s.ranges.a s.ranges.d s.requires) (more-fits c)
+    fits₂ ◌+ℤ◌ (rest s.args.a s.args.d s.ranges.a s.ranges.d s.requires) (read_divisor s.args.a s.args.d s.ranges.a s.ranges.d s.requires) (more_fits c)
 
 pub returns-then-r-lt0 : goal.returns-then-r-lt0
 returns-then-r-lt0 c =
     let s = c.before in
-    val₂ ◌+ℤ◌ (rest s.args.a s.args.d s.ranges.a s.ranges.d s.requires) (read_divisor s.args.a s.args.d s.ranges.a s.ranges.d s.requires) (more-fits c)
+    val₂ ◌+ℤ◌ (rest s.args.a s.args.d s.ranges.a s.ranges.d s.requires) (read_divisor s.args.a s.args.d s.ranges.a s.ranges.d s.requires) (more_fits c)
     ∙ (floor_below s.args.a s.args.d s.ranges.a s.ranges.d s.requires c.if-r-lt0.true).1
 
 pub returns-else-r-lt0 : goal.returns-else-r-lt0

@@ -42,17 +42,17 @@ module _ (t : Start) where
   left : (z : ℤ) → SFits w64 z → Num (read (rem_z (read z) (read d))) (rem_z z (pos m)) m
   left z f = record { is = rest z d f t.ranges.d t.requires.pos_bound; small = record { within = le_of_lt (rem_small z m 0<m) } }
 
-  aq-less : nat_abs a * (nat_abs b / m) < 2 ^ 63
-  aq-less = omega (arith, t.requires.split_fits.sums)
+  aq_less : nat_abs a * (nat_abs b / m) < 2 ^ 63
+  aq_less = omega (arith, t.requires.split_fits.sums)
 
-  us-less : nat_abs a / m * m < 2 ^ 63
-  us-less = omega (arith, t.requires.split_fits.sums)
+  us_less : nat_abs a / m * m < 2 ^ 63
+  us_less = omega (arith, t.requires.split_fits.sums)
 
   aq : Num (read (read a *ℤ read (quot_z (read b) (read d)))) (a *ℤ quot_z b (pos m)) (nat_abs a * (nat_abs b / m))
-  aq = mul< na (by b t.ranges.b) aq-less
+  aq = mul< na (by b t.ranges.b) aq_less
 
   us : Num (read (read (quot_z (read a) (read d)) *ℤ read (rem_z (read b) (read d)))) (quot_z a (pos m) *ℤ rem_z b (pos m)) (nat_abs a / m * m)
-  us = mul< (by a t.ranges.a) (left b t.ranges.b) us-less
+  us = mul< (by a t.ranges.a) (left b t.ranges.b) us_less
 
   vs : Num (read (read (rem_z (read a) (read d)) *ℤ read (rem_z (read b) (read d)))) (rem_z a (pos m) *ℤ rem_z b (pos m)) (m * m)
   vs = mul< (left a t.ranges.a) (left b t.ranges.b) t.requires.split_fits.rests
@@ -70,10 +70,10 @@ pub nonzero_rem-v : goal.nonzero_rem-v
 nonzero_rem-v c = div_need (a c) (d c) c.ranges.a c.ranges.d c.requires.pos_bound
 
 pub overflow_mul-result : goal.overflow_mul-result
-overflow_mul-result c = mul_fits< (na c) (by c (b c) c.ranges.b) (aq-less c)
+overflow_mul-result c = mul_fits< (na c) (by c (b c) c.ranges.b) (aq_less c)
 
 pub overflow_mul-result-2 : goal.overflow_mul-result-2
-overflow_mul-result-2 c = mul_fits< (by c (a c) c.ranges.a) (left c (b c) c.ranges.b) (us-less c)
+overflow_mul-result-2 c = mul_fits< (by c (a c) c.ranges.a) (left c (b c) c.ranges.b) (us_less c)
 
 pub overflow_add-result : goal.overflow_add-result
 overflow_add-result c = add_fits< (aq c) (us c) (omega (arith, c.requires.split_fits.sums))

@@ -15,14 +15,14 @@ use Rattle.kepler.proofs.Demand.{turned, point_of_turn, turn_below_end, only_one
 use Rattle.kepler.proofs.eccentric.Goals as goal
 use Rattle.kepler.proofs.eccentric.Goals.{After-grid_point-target, After-millionths-m, After-nearest-n, After-of_millionths}
 
-m-is : (c : After-millionths-m) → read c.millionths-m.result ≡ one_turn (millionths c.before.before.args.mean)
-m-is c = back_ok c.millionths-m.result c.millionths-m.type_inv ∙ c.millionths-m.ensures ∙ c.before.one_turn.ensures
+m_is : (c : After-millionths-m) → read c.millionths-m.result ≡ one_turn (millionths c.before.before.args.mean)
+m_is c = back_ok c.millionths-m.result c.millionths-m.type_inv ∙ c.millionths-m.ensures ∙ c.before.one_turn.ensures
 
 pub grid_point-target-requires : goal.grid_point-target-requires
-grid_point-target-requires c = subst Candidate (sym (m-is c)) (turned (millionths c.before.before.args.mean))
+grid_point-target-requires c = subst Candidate (sym (m_is c)) (turned (millionths c.before.before.args.mean))
 
 point : (c : After-grid_point-target) → c.grid_point-target.result ≡ point_of (one_turn (millionths c.before.before.before.args.mean))
-point c = c.grid_point-target.ensures ∙ ap point_of (m-is c.before)
+point c = c.grid_point-target.ensures ∙ ap point_of (m_is c.before)
 
 below : (c : After-grid_point-target) → c.grid_point-target.result < 360000000
 below c = subst (λ (n : ℕ). n < 360000000) (sym (point c)) (turn_below_end (millionths c.before.before.before.args.mean))

@@ -23,11 +23,11 @@ both e M x = (x, subst (Answers e M) (sym x) (answers_as_asked e M))
 abbrev e : After-hundred_millionths-count → ℤ
 e c = hundred_millionths c.before.args.e
 
-count-is : (c : After-hundred_millionths-count) → read c.hundred_millionths-count.result ≡ e c
-count-is c = back_ok c.hundred_millionths-count.result c.hundred_millionths-count.type_inv ∙ c.hundred_millionths-count.ensures
+count_is : (c : After-hundred_millionths-count) → read c.hundred_millionths-count.result ≡ e c
+count_is c = back_ok c.hundred_millionths-count.result c.hundred_millionths-count.type_inv ∙ c.hundred_millionths-count.ensures
 
 test : (c : After-is_from_to) → is_elliptic (e c.before) ≡ c.is_from_to.result
-test c = sym (c.is_from_to.ensures ∙ ap is_elliptic (count-is c.before))
+test c = sym (c.is_from_to.ensures ∙ ap is_elliptic (count_is c.before))
 
 pub returns-then-not-is_from_to : goal.returns-then-not-is_from_to
 returns-then-not-is_from_to c =
@@ -46,11 +46,11 @@ pub overflow_cast-count : goal.overflow_cast-count
 overflow_cast-count c =
     let s = c.before.before in
     let n = range_most 0 (e s) (within c) in
-    cast_fits (count-is s) (within c).low (omega arith)
+    cast_fits (count_is s) (within c).low (omega arith)
 
 -- the eccentricity as the callee has it
 cast_is : (c : Else-not-is_from_to) → nat_abs (read c.before.before.hundred_millionths-count.result) ≡ nat_abs (e c.before.before)
-cast_is c = ap nat_abs (count-is c.before.before)
+cast_is c = ap nat_abs (count_is c.before.before)
 
 pub eccentric-requires : goal.eccentric-requires
 eccentric-requires c =

@@ -33,11 +33,11 @@ formed op w f e a b c d i =
     (w _ _ (small a.small b.small) (small (small c.small d.small) i.small))
 
 -- ---- a minus sign before two products
-minus-sum : (x y : ℤ) → pos 0 -ℤ (x +ℤ y) ≡ neg_ℤ x -ℤ y
-minus-sum x y = omega (zarith, d_add x y, d_minus (pos 0) (x +ℤ y), up_neg x, dn_neg x, d_minus (neg_ℤ x) y)
+minus_sum : (x y : ℤ) → pos 0 -ℤ (x +ℤ y) ≡ neg_ℤ x -ℤ y
+minus_sum x y = omega (zarith, d_add x y, d_minus (pos 0) (x +ℤ y), up_neg x, dn_neg x, d_minus (neg_ℤ x) y)
 
-minus-difference : (x y : ℤ) → pos 0 -ℤ (x -ℤ y) ≡ neg_ℤ x +ℤ y
-minus-difference x y = omega (zarith, d_minus x y, d_minus (pos 0) (x -ℤ y), up_neg x, dn_neg x, d_add (neg_ℤ x) y)
+minus_difference : (x y : ℤ) → pos 0 -ℤ (x -ℤ y) ≡ neg_ℤ x +ℤ y
+minus_difference x y = omega (zarith, d_minus x y, d_minus (pos 0) (x -ℤ y), up_neg x, dn_neg x, d_add (neg_ℤ x) y)
 
 -- ---- the six numbers given
 module _ (s : Start) where
@@ -84,7 +84,7 @@ returns c =
     let d1 = d2.before in
     let s = d1.before in
     λ i.
-    six ((px d1).is i) (((sub (lit (pos 0)) (qx d2) tt).is ∙ minus-sum (unit_product s.args.sw s.args.cn) (unit_product (unit_product s.args.cw s.args.sn) s.args.ci)) i) ((py d3).is i) (((sub (lit (pos 0)) (qy d4) tt).is ∙ minus-difference (unit_product s.args.sw s.args.sn) (unit_product (unit_product s.args.cw s.args.cn) s.args.ci)) i)
+    six ((px d1).is i) (((sub (lit (pos 0)) (qx d2) tt).is ∙ minus_sum (unit_product s.args.sw s.args.cn) (unit_product (unit_product s.args.cw s.args.sn) s.args.ci)) i) ((py d3).is i) (((sub (lit (pos 0)) (qy d4) tt).is ∙ minus_difference (unit_product s.args.sw s.args.sn) (unit_product (unit_product s.args.cw s.args.cn) s.args.ci)) i)
     ((unit_got 1000000000 z.unit_product.type_inv z.unit_product.ensures (sw s) (si s) tt).is i)
     ((unit_got 1000000000 c.unit_product-2.type_inv c.unit_product-2.ensures (cw s) (si s) tt).is i)
 

@@ -11,7 +11,7 @@ use Rattle.orbits.specs.Elements.{elements_at}
 use Rattle.orbits.specs.Answer.{body_moment, elements_on}
 use Rattle.orbits.proofs.Answers.{body_accepted}
 use Rattle.orbits.proofs.elements_on_date.Goals as goal
-use Rattle.orbits.proofs.elements_on_date.Goals.{After-body_moment, In-Accepted}
+use Rattle.orbits.proofs.elements_on_date.Goals.{In-Accepted}
 
 -- the moment of the date for the body is that of this arm
 told : (c : In-Accepted) → body_moment c.args.date c.args.table c.args.body ≡ Accepted c.in-Accepted.minute

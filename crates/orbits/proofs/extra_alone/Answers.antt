@@ -15,17 +15,17 @@ returns-then-table-eq1 c =
     let s = c.before.before in
     c.of_hundred_millionths.ensures ∙ sym (none_by_bits s.args.body s.args.minute s.ranges.table c.before.if-table-eq1.true)
 
-terms-are : (c : After-terms_of) → c.terms_of.result ≡ table_terms c.before.before.before.before.args.table c.before.before.before.before.args.body
-terms-are c =
+terms_are : (c : After-terms_of) → c.terms_of.result ≡ table_terms c.before.before.before.before.args.table c.before.before.before.before.args.body
+terms_are c =
     let s = c.before.before.before.before in
     c.terms_of.ensures ∙ (λ i. table_terms (back s.args.table s.ranges.table i) (back s.args.body s.ranges.body i))
 
 pub extra_of-requires : goal.extra_of-requires
 extra_of-requires c =
     let s = c.before.before.before.before in
-    record { sines_value = c.before.before.sines-sines.ensures; terms_fit = subst₂ TermsFit (sym (terms-are c)) (sym (back s.args.minute s.ranges.minute)) (table_terms_fit s.args.table s.args.body s.args.minute s.requires.body s.requires.on_table) }
+    record { sines_value = c.before.before.sines-sines.ensures; terms_fit = subst₂ TermsFit (sym (terms_are c)) (sym (back s.args.minute s.ranges.minute)) (table_terms_fit s.args.table s.args.body s.args.minute s.requires.body s.requires.on_table) }
 
 pub returns : goal.returns
 returns c =
     let s = c.before.before.before.before.before in
-    c.extra_of.ensures ∙ (λ i. extra_of (terms-are c.before i) (back s.args.minute s.ranges.minute i))
+    c.extra_of.ensures ∙ (λ i. extra_of (terms_are c.before i) (back s.args.minute s.ranges.minute i))

@@ -24,11 +24,11 @@ module _ (s : Start) where
   small : s.args.e ≤ 90000000
   small = range_most 0 (pos s.args.e) s.requires.axis_fits.elliptic
 
-  a-is : read s.args.a ≡ s.args.a
-  a-is = back s.args.a s.ranges.a
+  a_is : read s.args.a ≡ s.args.a
+  a_is = back s.args.a s.ranges.a
 
-  e-is : to_z w64 s.args.e ≡ pos s.args.e
-  e-is = of_nat s.args.e (omega (arith, small))
+  e_is : to_z w64 s.args.e ≡ pos s.args.e
+  e_is = of_nat s.args.e (omega (arith, small))
 
 pub minor_axis-f-requires : goal.minor_axis-f-requires
 minor_axis-f-requires c = small c
@@ -45,7 +45,7 @@ cosine_is c = back_ok c.cosine.result c.cosine.type_inv ∙ c.cosine.ensures
 pub plane_x-requires : goal.plane_x-requires
 plane_x-requires c =
     let s = c.before.before in
-    record { axis_fits = subst₂ AxisFits (sym (a-is s)) (sym (e-is s)) s.requires.axis_fits; within = subst (Within 1000000000) (sym (cosine_is c)) (cosine_small (millionths s.args.anomaly)) }
+    record { axis_fits = subst₂ AxisFits (sym (a_is s)) (sym (e_is s)) s.requires.axis_fits; within = subst (Within 1000000000) (sym (cosine_is c)) (cosine_small (millionths s.args.anomaly)) }
 
 sine_is : (c : After-sine) → read c.sine.result ≡ sine_of (millionths c.before.before.before.before.args.anomaly)
 sine_is c = back_ok c.sine.result c.sine.type_inv ∙ c.sine.ensures
@@ -53,7 +53,7 @@ sine_is c = back_ok c.sine.result c.sine.type_inv ∙ c.sine.ensures
 pub plane_y-requires : goal.plane_y-requires
 plane_y-requires c =
     let s = c.before.before.before.before in
-    let axis : Within 4500000000 s.args.a = record { within = s.requires.axis_fits.axis } in record { within = subst (Within 4500000000) (sym (a-is s)) axis; within_2 = subst (Within 1000000000) (sym (minor_is c.before.before.before)) (minor_small (pos s.args.e) s.requires.axis_fits.elliptic); within_3 = subst (Within 1000000000) (sym (sine_is c)) (sine_small (millionths s.args.anomaly)) }
+    let axis : Within 4500000000 s.args.a = record { within = s.requires.axis_fits.axis } in record { within = subst (Within 4500000000) (sym (a_is s)) axis; within_2 = subst (Within 1000000000) (sym (minor_is c.before.before.before)) (minor_small (pos s.args.e) s.requires.axis_fits.elliptic); within_3 = subst (Within 1000000000) (sym (sine_is c)) (sine_small (millionths s.args.anomaly)) }
 
 abbrev two : ℤ → ℤ → InPlane
 two x y = record { x = x; y = y }
@@ -67,5 +67,5 @@ returns c =
     let s = m.before in
     λ i.
     two
-    ((back_ok x.plane_x.result x.plane_x.type_inv ∙ x.plane_x.ensures ∙ (λ j. floor_div (a-is s j *ℤ (cosine_is x.before j -ℤ pos 10 *ℤ e-is s j)) 10000000000)) i)
-    ((back_ok c.plane_y.result c.plane_y.type_inv ∙ c.plane_y.ensures ∙ (λ j. unit_product (floor_div (a-is s j *ℤ minor_is m j) 10000000000) (sine_is d j))) i)
+    ((back_ok x.plane_x.result x.plane_x.type_inv ∙ x.plane_x.ensures ∙ (λ j. floor_div (a_is s j *ℤ (cosine_is x.before j -ℤ pos 10 *ℤ e_is s j)) 10000000000)) i)
+    ((back_ok c.plane_y.result c.plane_y.type_inv ∙ c.plane_y.ensures ∙ (λ j. unit_product (floor_div (a_is s j *ℤ minor_is m j) 10000000000) (sine_is d j))) i)

@@ -13,7 +13,7 @@ use Rattle.orbits.specs.Elements.{mean_at}
 use Rattle.orbits.specs.Answer.{body_moment, mean_on}
 use Rattle.orbits.proofs.Answers.{body_accepted}
 use Rattle.orbits.proofs.mean_anomaly.Goals as goal
-use Rattle.orbits.proofs.mean_anomaly.Goals.{After-body_moment, In-Accepted}
+use Rattle.orbits.proofs.mean_anomaly.Goals.{In-Accepted}
 
 -- the moment of the date for the body is that of this arm
 told : (c : In-Accepted) → body_moment c.args.date c.args.table c.args.body ≡ Accepted c.in-Accepted.minute

@@ -12,19 +12,19 @@ use Rattle.orbits.proofs.Terms.{extra_within}
 use Rattle.orbits.proofs.mean_at.Goals as goal
 use Rattle.orbits.proofs.mean_at.Goals.{After-elements_of-elements, After-extra_alone}
 
-elements-are : (c : After-elements_of-elements) → c.elements_of-elements.result ≡ elements_at (table_row c.before.args.table c.before.args.body) c.before.args.minute
-elements-are c =
+elements_are : (c : After-elements_of-elements) → c.elements_of-elements.result ≡ elements_at (table_row c.before.args.table c.before.args.body) c.before.args.minute
+elements_are c =
     let s = c.before in
     c.elements_of-elements.ensures ∙ (λ i. elements_at (table_row (back s.args.table s.ranges.table i) (back s.args.body s.ranges.body i)) (back s.args.minute s.ranges.minute i))
 
-extra-is : (c : After-extra_alone) → hundred_millionths c.extra_alone.result ≡ extra_of (table_terms c.before.before.args.table c.before.before.args.body) c.before.before.args.minute
-extra-is c =
+extra_is : (c : After-extra_alone) → hundred_millionths c.extra_alone.result ≡ extra_of (table_terms c.before.before.args.table c.before.before.args.body) c.before.before.args.minute
+extra_is c =
     let s = c.before.before in
     c.extra_alone.ensures ∙ (λ i. extra_of (table_terms (back s.args.table s.ranges.table i) (back s.args.body s.ranges.body i)) (back s.args.minute s.ranges.minute i))
 
 pub mean_anomaly_of-requires : goal.mean_anomaly_of-requires
 mean_anomaly_of-requires c =
-    let s = c.before.before in record { elements_fit = subst ElementsFit (sym (elements-are c.before)) (table_elements_fit s.args.table s.args.body s.args.minute s.requires.body s.requires.on_table); within = subst (Within 1000000000000000000) (sym (extra-is c)) (extra_within (table_terms_fit s.args.table s.args.body s.args.minute s.requires.body s.requires.on_table)) }
+    let s = c.before.before in record { elements_fit = subst ElementsFit (sym (elements_are c.before)) (table_elements_fit s.args.table s.args.body s.args.minute s.requires.body s.requires.on_table); within = subst (Within 1000000000000000000) (sym (extra_is c)) (extra_within (table_terms_fit s.args.table s.args.body s.args.minute s.requires.body s.requires.on_table)) }
 
 pub returns : goal.returns
-returns c = let e = c.before in c.mean_anomaly_of.ensures ∙ (λ i. mean_anomaly_of (elements-are e.before i) (extra-is e i))
+returns c = let e = c.before in c.mean_anomaly_of.ensures ∙ (λ i. mean_anomaly_of (elements_are e.before i) (extra_is e i))

@@ -20,14 +20,14 @@ use Rattle.orbits.proofs.periodic_terms.Goals as goal
 use Rattle.orbits.proofs.periodic_terms.Goals.{After-cosine, After-sine, After-to_angle-phase, After-unit_product, After-unit_product-2, Start}
 
 -- a number whose bits are 0
-is-0 : {z : ℤ} → SFits w64 z → T (eqb (of_z w64 z) 0) → z ≡ pos 0
-is-0 {z} f t = same_bits f (pos_fits 0 (ltb→lt 0 (2 ^ 63) tt)) (eqb→eq (of_z w64 z) 0 t)
+is_0 : {z : ℤ} → SFits w64 z → T (eqb (of_z w64 z) 0) → z ≡ pos 0
+is_0 {z} f t = same_bits f (pos_fits 0 (ltb→lt 0 (2 ^ 63) tt)) (eqb→eq (of_z w64 z) 0 t)
 
 pub returns-then-c-s : goal.returns-then-c-s
 returns-then-c-s c =
     let s = c.before in
     let z = and_yes (eqb (of_z w64 s.args.c) 0) (eqb (of_z w64 s.args.s) 0) (subst T (sym c.if-c-s.true) tt) in
-    sym ((λ i. periodic_terms (is-0 s.ranges.c z.0 i) (is-0 s.ranges.s z.1 i) s.args.f s.args.minute) ∙ no_periodic s.args.f s.args.minute)
+    sym ((λ i. periodic_terms (is_0 s.ranges.c z.0 i) (is_0 s.ranges.s z.1 i) s.args.f s.args.minute) ∙ no_periodic s.args.f s.args.minute)
 
 pub drift-requires : goal.drift-requires
 drift-requires c =
@@ -35,8 +35,8 @@ drift-requires c =
     record { rate_fits = w_read (w_more p.0 tt) tt; minute_fits = w_read p.1 tt }
 
 -- fT
-phase-is : (c : After-to_angle-phase) → millionths c.to_angle-phase.result ≡ phase_of c.before.before.before.before.args.f c.before.before.before.before.args.minute
-phase-is c =
+phase_is : (c : After-to_angle-phase) → millionths c.to_angle-phase.result ≡ phase_of c.before.before.before.before.args.f c.before.before.before.before.args.minute
+phase_is c =
     let d = c.before.before in
     let s = d.before.before in
     let p = s.requires.within_2 in
@@ -47,7 +47,7 @@ abbrev start : After-cosine → Start
 start c = c.before.before.before.before.before
 
 cosine : (c : After-cosine) → Num (read c.cosine.result) (cosine_of (phase_of (start c).args.f (start c).args.minute)) 1000000000
-cosine c = got c.cosine.type_inv (c.cosine.ensures ∙ ap cosine_of (phase-is c.before)) (cosine_small (phase_of (start c).args.f (start c).args.minute))
+cosine c = got c.cosine.type_inv (c.cosine.ensures ∙ ap cosine_of (phase_is c.before)) (cosine_small (phase_of (start c).args.f (start c).args.minute))
 
 first : (c : After-unit_product) → Num (read c.unit_product.result) (unit_product (start c.before).args.c (cosine_of (phase_of (start c.before).args.f (start c.before).args.minute))) 5000000000
 first c = unit_got 5000000000 c.unit_product.type_inv c.unit_product.ensures (known (start c.before).requires.within.0 tt) (cosine c.before) tt
@@ -55,7 +55,7 @@ first c = unit_got 5000000000 c.unit_product.type_inv c.unit_product.ensures (kn
 sine : (c : After-sine) → Num (read c.sine.result) (sine_of (phase_of (start c.before.before).args.f (start c.before.before).args.minute)) 1000000000
 sine c =
     let d = c.before.before in
-    got c.sine.type_inv (c.sine.ensures ∙ ap sine_of (phase-is d.before)) (sine_small (phase_of (start d).args.f (start d).args.minute))
+    got c.sine.type_inv (c.sine.ensures ∙ ap sine_of (phase_is d.before)) (sine_small (phase_of (start d).args.f (start d).args.minute))
 
 second : (c : After-unit_product-2) → Num (read c.unit_product-2.result) (unit_product (start c.before.before.before).args.s (sine_of (phase_of (start c.before.before.before).args.f (start c.before.before.before).args.minute))) 5000000000
 second c = unit_got 5000000000 c.unit_product-2.type_inv c.unit_product-2.ensures (known (start c.before.before.before).requires.within.1 tt) (sine c.before) tt

@@ -9,7 +9,7 @@ use Rattle.tables.proofs.Laws.{after_inside, covered_read, on_table_read}
 use Rattle.frames.specs.Frame.{is_frame}
 use Rattle.places.specs.Answer.{place_if, place_on}
 use Rattle.places.proofs.place_after.Goals as goal
-use Rattle.places.proofs.place_after.Goals.{After-moment_after, In-Accepted}
+use Rattle.places.proofs.place_after.Goals.{In-Accepted}
 
 -- the moment of the date and the offset is that of this arm
 told : (c : In-Accepted) → moment_after c.args.date c.args.table c.args.offset ≡ Accepted c.in-Accepted.minute

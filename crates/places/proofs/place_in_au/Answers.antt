@@ -10,7 +10,7 @@ use Rattle.places.specs.declared.PlaceAnswer.TheVariants.{Found}
 use Rattle.places.specs.declared.AuAnswer.TheVariants.{InAu}
 use Rattle.places.proofs.Answers.{found_exact}
 use Rattle.places.proofs.place_in_au.Goals as goal
-use Rattle.places.proofs.place_in_au.Goals.{After-place_after, In-Found}
+use Rattle.places.proofs.place_in_au.Goals.{In-Found}
 
 -- the answer for the date, of the numbers themselves, is that of this arm
 told : (c : In-Found) → place_answer c.args.date c.args.table c.args.body c.args.frame ≡ Found c.in-Found.field-0 c.in-Found.p

@@ -37,26 +37,26 @@ module _ (s : Start) where
   by : {b f : Bool} → is_body s.args.body ≡ b → is_frame s.args.frame ≡ f → place_if (is_body s.args.body) (is_frame s.args.frame) s.args.table s.args.body s.args.frame s.args.minute ≡ place_if b f s.args.table s.args.body s.args.frame s.args.minute
   by p q i = place_if (p i) (q i) s.args.table s.args.body s.args.frame s.args.minute
 
-body-test : (c : After-is_body) → is_body c.before.args.body ≡ c.is_body.result
-body-test c = sym (c.is_body.ensures ∙ ap is_body (body_is c.before))
+body_test : (c : After-is_body) → is_body c.before.args.body ≡ c.is_body.result
+body_test c = sym (c.is_body.ensures ∙ ap is_body (body_is c.before))
 
 pub returns-then-not-is_body : goal.returns-then-not-is_body
-returns-then-not-is_body c = let d = c.before in sym (by d.before (body-test d ∙ c.if-not-is_body.true) refl)
+returns-then-not-is_body c = let d = c.before in sym (by d.before (body_test d ∙ c.if-not-is_body.true) refl)
 
 has_body : (c : Else-not-is_body) → is_body c.before.before.args.body ≡ true
-has_body c = body-test c.before ∙ c.if-not-is_body.false
+has_body c = body_test c.before ∙ c.if-not-is_body.false
 
-frame-test : (c : After-is_frame) → is_frame c.before.before.before.args.frame ≡ c.is_frame.result
-frame-test c = sym (c.is_frame.ensures ∙ ap is_frame (frame_is c.before.before.before))
+frame_test : (c : After-is_frame) → is_frame c.before.before.before.args.frame ≡ c.is_frame.result
+frame_test c = sym (c.is_frame.ensures ∙ ap is_frame (frame_is c.before.before.before))
 
 pub returns-then-not-is_frame : goal.returns-then-not-is_frame
 returns-then-not-is_frame c =
     let d = c.before in
     let e = d.before in
-    sym (by e.before.before (has_body e) (frame-test d ∙ c.if-not-is_frame.true))
+    sym (by e.before.before (has_body e) (frame_test d ∙ c.if-not-is_frame.true))
 
-has-frame : (c : Else-not-is_frame) → is_frame c.before.before.before.before.args.frame ≡ true
-has-frame c = frame-test c.before ∙ c.if-not-is_frame.false
+has_frame : (c : Else-not-is_frame) → is_frame c.before.before.before.before.args.frame ≡ true
+has_frame c = frame_test c.before ∙ c.if-not-is_frame.false
 
 known_body : (c : Else-not-is_body) → Body c.before.before.args.body
 known_body c = inside_of (pos 1) (pos 9) c.before.before.args.body (has_body c)
@@ -67,8 +67,8 @@ place_at-v-requires c =
     let s = e.before.before in
     record { sines_value = s.requires.sines_value; body = subst Body (sym (body_is s)) (known_body e); on_table = on_table s }
 
-hae-is : (c : After-place_at-v) → c.place_at-v.result ≡ hae_at c.before.before.before.before.before.args.table c.before.before.before.before.before.args.body c.before.before.before.before.before.args.minute
-hae-is c =
+hae_is : (c : After-place_at-v) → c.place_at-v.result ≡ hae_at c.before.before.before.before.before.args.table c.before.before.before.before.before.args.body c.before.before.before.before.before.args.minute
+hae_is c =
     let s = c.before.before.before.before.before in
     c.place_at-v.ensures ∙ (λ i. hae_at (table_is s i) (body_is s i) (minute_is s i))
 
@@ -76,7 +76,7 @@ pub turned_on-requires : goal.turned_on-requires
 turned_on-requires c =
     let f = c.before in
     let e = f.before.before in
-    let s = e.before.before in record { sines_value = s.requires.sines_value; known_frame = (hae_frame, subst KnownFrame (sym (frame_is s)) (inside_of (pos 1) (pos 5) s.args.frame (has-frame f))); parts_within = subst (PartsWithin 1000000000) (sym (hae-is c)) (table_place_within s.args.table s.args.body s.args.minute (known_body e) s.requires.on_table); on_table = on_table s }
+    let s = e.before.before in record { sines_value = s.requires.sines_value; known_frame = (hae_frame, subst KnownFrame (sym (frame_is s)) (inside_of (pos 1) (pos 5) s.args.frame (has_frame f))); parts_within = subst (PartsWithin 1000000000) (sym (hae_is c)) (table_place_within s.args.table s.args.body s.args.minute (known_body e) s.requires.on_table); on_table = on_table s }
 
 pub returns : goal.returns
 returns c =
@@ -84,5 +84,5 @@ returns c =
     let f = h.before in
     let e = f.before.before in
     let s = e.before.before in
-    let p = c.turned_on.ensures ∙ (λ i. as_coordinates (turned_between (pos 1) (frame_is s i) (earth_at (table_is s i) (minute_is s i)) (hae-is h i))) in
-    (λ i. Found (minute_is s i) (p i)) ∙ sym (by s (has_body e) (has-frame f))
+    let p = c.turned_on.ensures ∙ (λ i. as_coordinates (turned_between (pos 1) (frame_is s i) (earth_at (table_is s i) (minute_is s i)) (hae_is h i))) in
+    (λ i. Found (minute_is s i) (p i)) ∙ sym (by s (has_body e) (has_frame f))

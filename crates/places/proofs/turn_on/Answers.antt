@@ -27,8 +27,8 @@ module _ (s : Start) where
   by e f g i = turn_if (e i && f i) (g i) s.args.table s.args.from s.args.to s.args.v s.args.minute
 
 -- the tests' results, of the numbers themselves
-from-test : (c : After-is_frame) → is_frame c.before.args.from ≡ c.is_frame.result
-from-test c = sym (c.is_frame.ensures ∙ ap is_frame (from_is c.before))
+from_test : (c : After-is_frame) → is_frame c.before.args.from ≡ c.is_frame.result
+from_test c = sym (c.is_frame.ensures ∙ ap is_frame (from_is c.before))
 
 to_test : (c : After-is_frame-2) → is_frame c.before.before.before.args.to ≡ c.is_frame-2.result
 to_test c = sym (c.is_frame-2.ensures ∙ ap is_frame (to_is c.before.before.before))
@@ -37,27 +37,27 @@ pub returns-then-not-is_frame : goal.returns-then-not-is_frame
 returns-then-not-is_frame c =
     let d = c.before in
     let s = d.before in
-    sym (by s (from-test d ∙ c.if-not-is_frame.true) refl refl)
+    sym (by s (from_test d ∙ c.if-not-is_frame.true) refl refl)
 
-from-known : (c : Else-not-is_frame) → is_frame c.before.before.args.from ≡ true
-from-known c = from-test c.before ∙ c.if-not-is_frame.false
+from_known : (c : Else-not-is_frame) → is_frame c.before.before.args.from ≡ true
+from_known c = from_test c.before ∙ c.if-not-is_frame.false
 
 pub returns-then-not-is_frame-2 : goal.returns-then-not-is_frame-2
 returns-then-not-is_frame-2 c =
     let d = c.before in
     let e = d.before in
     let s = e.before.before in
-    sym (by s (from-known e) (to_test d ∙ c.if-not-is_frame-2.true) refl)
+    sym (by s (from_known e) (to_test d ∙ c.if-not-is_frame-2.true) refl)
 
-to-known : (c : Else-not-is_frame-2) → is_frame c.before.before.before.before.args.to ≡ true
-to-known c = to_test c.before ∙ c.if-not-is_frame-2.false
+to_known : (c : Else-not-is_frame-2) → is_frame c.before.before.before.before.args.to ≡ true
+to_known c = to_test c.before ∙ c.if-not-is_frame-2.false
 
 pub returns-then-not-in_limits : goal.returns-then-not-in_limits
 returns-then-not-in_limits c =
     let d = c.before in
     let e = d.before in
     let s = e.before.before.before.before in
-    sym (by s (from-known e.before.before) (to-known e) (sym d.in_limits.ensures ∙ c.if-not-in_limits.true))
+    sym (by s (from_known e.before.before) (to_known e) (sym d.in_limits.ensures ∙ c.if-not-in_limits.true))
 
 near : (c : Else-not-in_limits) → in_limits c.before.before.before.before.before.before.args.v ≡ true
 near c = sym c.before.in_limits.ensures ∙ c.if-not-in_limits.false
@@ -71,8 +71,8 @@ turned_on-requires c =
     let s = e.before.before.before.before in record {
       sines_value = s.requires.sines_value;
       known_frame = (
-        subst KnownFrame (sym (from_is s)) (known_frame s.args.from (from-known e.before.before)),
-        subst KnownFrame (sym (to_is s)) (known_frame s.args.to (to-known e)),
+        subst KnownFrame (sym (from_is s)) (known_frame s.args.from (from_known e.before.before)),
+        subst KnownFrame (sym (to_is s)) (known_frame s.args.to (to_known e)),
       );
       parts_within = parts_more (limits_parts s.args.v s.well_formed.1.1.1.1.1.0.1.0.1 (near c)) tt;
       on_table = on_table_read s.ranges.table s.requires.on_table;
@@ -84,4 +84,4 @@ returns c =
     let e = n.before.before in
     let s = e.before.before.before.before in
     ap Vector (c.turned_on.ensures ∙ (λ i. as_coordinates (turned_between (from_is s i) (to_is s i) (earth_at (back s.args.table s.ranges.table i) (covered_read s.requires.on_table i)) s.args.v)))
-    ∙ sym (by s (from-known e.before.before) (to-known e) (near n))
+    ∙ sym (by s (from_known e.before.before) (to_known e) (near n))

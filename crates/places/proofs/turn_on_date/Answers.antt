@@ -12,7 +12,7 @@ use Rattle.frames.specs.Frame.{is_frame}
 use Rattle.frames.specs.Answer.{in_limits}
 use Rattle.places.specs.Answer.{turn_if, turn_on}
 use Rattle.places.proofs.turn_on_date.Goals as goal
-use Rattle.places.proofs.turn_on_date.Goals.{After-moment_after, In-Accepted}
+use Rattle.places.proofs.turn_on_date.Goals.{In-Accepted}
 
 -- the moment of the date by the table is that of this arm
 told : (c : In-Accepted) → moment_after c.args.date c.args.table (pos 0) ≡ Accepted c.in-Accepted.minute

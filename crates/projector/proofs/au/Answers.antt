@@ -9,9 +9,9 @@ use Rattle.integers.specs.Range.{Within}
 use Rattle.integers.proofs.Cast.{back}
 use Rattle.projector.proofs.au.Goals as goal
 
-ten-million : of_bits binary64 0x4163_12d0_0000_0000 ≡ of_int binary64 (pos 10000000)
+ten_million : of_bits binary64 0x4163_12d0_0000_0000 ≡ of_int binary64 (pos 10000000)
 unfolding of_bits of_int
-ten-million = refl
+ten_million = refl
 
 exact : (z : ℤ) → Within (2 ^ 53) z → T (in_float binary64 z)
 unfolding in_float
@@ -26,4 +26,4 @@ int_to_float-result c =
 pub returns : goal.returns
 returns c =
     let s = c.before in
-    (λ i. div binary64 (of_int binary64 (back s.args.n s.ranges.n i)) (ten-million i))
+    (λ i. div binary64 (of_int binary64 (back s.args.n s.ranges.n i)) (ten_million i))

@@ -7,10 +7,10 @@ use Rattle.rows.specs.Fields.{is_refused}
 use Rattle.rows.proofs.is_refused.Goals as goal
 use Rattle.rows.proofs.is_refused.Goals.{Start}
 
-status-read : (c : Start) → read c.args.row.status ≡ c.args.row.status
-status-read c = search rules
+status_read : (c : Start) → read c.args.row.status ≡ c.args.row.status
+status_read c = search rules
 
 pub returns : goal.returns
 unfolding is_refused
 returns c =
-    simp (c.is_from_to.ensures, status-read (goal.at.returns c).Start, c.are_zeros.ensures, c.row_numbers-numbers.ensures)
+    simp (c.is_from_to.ensures, status_read (goal.at.returns c).Start, c.are_zeros.ensures, c.row_numbers-numbers.ensures)

@@ -23,7 +23,7 @@ use Rattle.sheets.specs.Row.{bytes_for}
 use Rattle.sheets.specs.Sheet.{one_if, answer_at, rows_of, good_of}
 use Rattle.sheets.proofs.Laws.{bytes_long, good_more}
 use Rattle.sheets.proofs.fill.Goals as goal
-use Rattle.sheets.proofs.fill.Goals.{After-place_after-answer, In-Found, In-loop-i}
+use Rattle.sheets.proofs.fill.Goals.{In-Found, In-loop-i}
 
 pub loop-i-init : goal.loop-i-init
 unfolding buffer.blocks good_of
@@ -53,9 +53,9 @@ module _ (c : In-loop-i) where
   old = mid_of (row_size * c.loop-i.i) (length c.loop-i.bytes - row_size * c.loop-i.i) c.loop-i.bytes
 
   -- the answer of row i
-  answer-is : {x : PlaceAnswer} → x ≡ place_after c.args.start row_table (read (read c.args.step *ℤ to_z w64 c.loop-i.i)) (read c.args.body) (read c.args.frame)
+  answer_is : {x : PlaceAnswer} → x ≡ place_after c.args.start row_table (read (read c.args.step *ℤ to_z w64 c.loop-i.i)) (read c.args.body) (read c.args.frame)
       → x ≡ answer_at c.args.start (read c.args.step) (read c.args.body) (read c.args.frame) c.loop-i.i
-  answer-is e = e ∙ ap (λ (o : ℤ). place_after c.args.start row_table o (read c.args.body) (read c.args.frame)) (offset c).is
+  answer_is e = e ∙ ap (λ (o : ℤ). place_after c.args.start row_table o (read c.args.body) (read c.args.frame)) (offset c).is
 
   -- a round that puts the row of its answer into the bytes from `at` on leaves one row more, and one good row more if it is one
   after : (x : PlaceAnswer) (ys : List ℕ)
@@ -80,7 +80,7 @@ pub loop-i-preserved-in_default : goal.loop-i-preserved-in_default
 loop-i-preserved-in_default c =
     let k = (goal.at.loop-i-preserved-in_default c).In-loop-i in
     let row = ap (λ (p : ℤ × List ℕ). p.1) c.put_answer.ensures ∙ ap (λ (x : PlaceAnswer). bytes_for (read c.args.body) (read c.args.frame) x ++ drop row_size (old k)) c.in_default.is in
-    let more = after k (Refused c.in_default.field-0) c.put_answer.new.bytes (sym c.in_default.is ∙ answer-is k c.place_after-answer.ensures) row in
+    let more = after k (Refused c.in_default.field-0) c.put_answer.new.bytes (sym c.in_default.is ∙ answer_is k c.place_after-answer.ensures) row in
     (omega arith, more.0, more.1, omega (arith, more.2), omega arith)
 
 minute_is : (c : In-Found) → read c.in-Found.minute ≡ c.in-Found.minute
@@ -91,7 +91,7 @@ loop-i-preserved c =
     let k = (goal.at.loop-i-preserved c).In-loop-i in
     let m = minute_is (goal.at.loop-i-preserved c).In-Found in
     let row = ap (λ (q : ℤ × List ℕ). q.1) c.put_found.ensures ∙ ap (λ (m : ℤ). bytes_for (read c.args.body) (read c.args.frame) (Found m c.in-Found.p) ++ drop row_size (old k)) m in
-    let more = after k (Found c.in-Found.minute c.in-Found.p) c.put_found.new.bytes (sym c.in-Found.is ∙ answer-is k c.place_after-answer.ensures) row in
+    let more = after k (Found c.in-Found.minute c.in-Found.p) c.put_found.new.bytes (sym c.in-Found.is ∙ answer_is k c.place_after-answer.ensures) row in
     (omega arith, more.0, more.1, omega (arith, more.2), omega arith)
 
 pub returns : goal.returns

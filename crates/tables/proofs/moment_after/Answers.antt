@@ -20,7 +20,7 @@ use Rattle.dates.proofs.Laws.{held_is, held_enough}
 use Rattle.tables.specs.Table.{is_table, interval_of, moment_if, moment_after}
 use Rattle.tables.proofs.Laws.{first_near, last_near}
 use Rattle.tables.proofs.moment_after.Goals as goal
-use Rattle.tables.proofs.moment_after.Goals.{After-interval_of, After-is_table, Else-is_table, Start}
+use Rattle.tables.proofs.moment_after.Goals.{After-interval_of, After-is_table, Else-is_table}
 
 in_reach : (table : ℤ) {offset : ℤ} → Within 10000000000000 offset → InReach (interval_of table) offset
 in_reach table w = record { first_near = w_more (first_near table) tt; last_near = w_more (last_near table) tt; offset_near = w }
@@ -29,13 +29,13 @@ in_reach table w = record { first_near = w_more (first_near table) tt; last_near
 test : (c : After-is_table) → is_table c.before.before.args.table ≡ c.is_table.result
 test c = let s = c.before.before in sym (c.is_table.ensures ∙ ap is_table (back s.args.table s.ranges.table))
 
-interval-is : (c : After-interval_of) → c.interval_of.result ≡ interval_of c.before.before.before.before.args.table
-interval-is c = let s = c.before.before.before.before in c.interval_of.ensures ∙ ap interval_of (back s.args.table s.ranges.table)
+interval_is : (c : After-interval_of) → c.interval_of.result ≡ interval_of c.before.before.before.before.args.table
+interval_is c = let s = c.before.before.before.before in c.interval_of.ensures ∙ ap interval_of (back s.args.table s.ranges.table)
 
 pub moment_at-requires : goal.moment_at-requires
 moment_at-requires c =
     let m = c.before.before.before in
-    let s = m.before in record { in_reach = subst (λ (i : Interval). InReach i (read s.args.offset)) (sym (interval-is c)) (in_reach s.args.table (w_read s.requires tt)); held = subst Held (sym m.minute_of-minute.ensures) (held_is (minute_of s.args.date)) }
+    let s = m.before in record { in_reach = subst (λ (i : Interval). InReach i (read s.args.offset)) (sym (interval_is c)) (in_reach s.args.table (w_read s.requires tt)); held = subst Held (sym m.minute_of-minute.ensures) (held_is (minute_of s.args.date)) }
 
 pub returns-then-is_table : goal.returns-then-is_table
 unfolding moment_after
@@ -45,7 +45,7 @@ returns-then-is_table c =
     let m = t.before in
     let s = m.before in
     c.moment_at.ensures
-    ∙ (λ j. moment_at (interval-is i j) (m.minute_of-minute.ensures j) ((known s.requires tt).is j))
+    ∙ (λ j. moment_at (interval_is i j) (m.minute_of-minute.ensures j) ((known s.requires tt).is j))
     ∙ held_enough (interval_of s.args.table) (minute_of s.args.date) s.args.offset (in_reach s.args.table s.requires)
     ∙ sym (ap (λ (b : Bool). moment_if b (interval_of s.args.table) (minute_of s.args.date) s.args.offset) (test t ∙ i.before.if-is_table.true))
 

@@ -39,8 +39,8 @@ line_row table body h = go (same table (pos 1)) body h
         ap (λ (k : ℕ). get_or lines k []) e ∙ get_or-append-add table1 table2 (n - 1) []
     go false (negsuc n) h = absurd h.low.le
 
-line-is : (c : After-line_of) → c.line_of.result ≡ line_of c.before.args.table c.before.args.body
-line-is c =
+line_is : (c : After-line_of) → c.line_of.result ≡ line_of c.before.args.table c.before.args.body
+line_is c =
     let s = c.before in
     c.line_of.ensures ∙ (λ i. line_of (back s.args.table s.ranges.table i) (back s.args.body s.ranges.body i))
 
@@ -48,7 +48,7 @@ line-is c =
 row : (c : After-line_of) (k : ℕ) → T (ltb k (2 ^ 63)) → of_z w64 c.line_of.result ≡ k → row_in lines (pos k) ≡ table_row c.before.args.table c.before.args.body
 row c k t e =
     let s = c.before in
-    by_bits (row_in lines) {body = c.line_of.result} k t (record { sfits = c.line_of.type_inv }) e ∙ ap (row_in lines) (line-is c) ∙ line_row s.args.table s.args.body s.requires
+    by_bits (row_in lines) {body = c.line_of.result} k t (record { sfits = c.line_of.type_inv }) e ∙ ap (row_in lines) (line_is c) ∙ line_row s.args.table s.args.body s.requires
 
 pub returns-in-1 : goal.returns-in-1
 unfolding table1 table2
@@ -133,5 +133,5 @@ unfolding table1 table2
 returns-in_default c =
     let l = c.before in
     let s = l.before in
-    ap (row_in lines) (the_last l.line_of.result (subst (FromTo (pos 1) (pos 18)) (sym (line-is l)) (in_lines (same s.args.table (pos 1)) s.args.body s.requires)) (search rules) ∙ line-is l)
+    ap (row_in lines) (the_last l.line_of.result (subst (FromTo (pos 1) (pos 18)) (sym (line_is l)) (in_lines (same s.args.table (pos 1)) s.args.body s.requires)) (search rules) ∙ line_is l)
     ∙ line_row s.args.table s.args.body s.requires

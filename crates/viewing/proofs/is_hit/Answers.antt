@@ -18,13 +18,13 @@ module _ (s : Start) where
   dot_is : read s.args.aspect.dot ≡ s.args.aspect.dot
   dot_is = search rules
 
-  cross-fits : SFits w64 s.args.aspect.cross
-  cross-fits = search rules
+  cross_fits : SFits w64 s.args.aspect.cross
+  cross_fits = search rules
 
 pub returns : goal.returns
 returns c =
     let s = c.before.before.before.before in
     let dot = dot_is s in
-    let zero = bits_tell s.args.aspect.cross (pos 0) (cross-fits s) (pos_fits 0 (omega arith)) in
-    let turned = c.opposite_signs.ensures ∙ (λ i. opposite_signs (back s.args.aspect.cross (cross-fits s) i) (back s.args.before s.ranges.before i)) in
+    let zero = bits_tell s.args.aspect.cross (pos 0) (cross_fits s) (pos_fits 0 (omega arith)) in
+    let turned = c.opposite_signs.ensures ∙ (λ i. opposite_signs (back s.args.aspect.cross (cross_fits s) i) (back s.args.before s.ranges.before i)) in
     λ i. lt_z (pos 0) (dot i) && (zero i || turned i)

@@ -53,14 +53,14 @@ aspect_at-aspect-requires c =
     let is = back_ok c.minute_at.result c.minute_at.type_inv ∙ c.minute_at.ensures ∙ (λ j. minute_at (first_is s j) (step_is s j) i) in
     record { sines_value = c.requires.sines_value; body = subst⁻¹ Body (body_is s) c.requires.body; on_table = subst₂ OnTable (sym (table_is s)) (sym is) (c.requires.span_fits.each i (omega arith)) }
 
-aspect-is : (c : After-is_hit) → c.aspect_at-aspect.result ≡ aspect_at (read c.args.table) (read c.args.body) (minute_at (read c.args.first) (read c.args.step) c.loop-i.i)
-aspect-is c =
+aspect_is : (c : After-is_hit) → c.aspect_at-aspect.result ≡ aspect_at (read c.args.table) (read c.args.body) (minute_at (read c.args.first) (read c.args.step) c.loop-i.i)
+aspect_is c =
     c.aspect_at-aspect.ensures ∙ ap (aspect_at (read c.args.table) (read c.args.body)) (back_ok c.minute_at.result c.minute_at.type_inv ∙ c.minute_at.ensures)
 
 -- the test of date i is the definition's
 told : (c : After-is_hit) → is_hit (read c.args.table) (read c.args.body) (read c.args.first) (read c.args.step) c.loop-i.i ≡ c.is_hit.result
 told c =
-    let a = aspect-is c in
+    let a = aspect_is c in
     sym (c.is_hit.ensures ∙ (λ j. hit_if (opposite_signs (a j).cross (c.loop-i.invariant.2 j)) (a j)) ∙ hit_by (read c.args.table) (read c.args.body) (read c.args.first) (read c.args.step) c.loop-i.i)
 
 pub returns-then-is_hit : goal.returns-then-is_hit
@@ -81,7 +81,7 @@ loop-i-preserved c =
     let hit = (goal.at.loop-i-preserved c).After-is_hit in
     let i = c.loop-i.i in
     let none = none_more (hits s) i c.loop-i.invariant.1 (told hit ∙ c.if-is_hit.false) in
-    let cross = cross_is hit ∙ ap (λ (a : Aspect). a.cross) (aspect-is hit) in
+    let cross = cross_is hit ∙ ap (λ (a : Aspect). a.cross) (aspect_is hit) in
     (omega arith, (λ j l. none j (omega arith)), cross ∙ ap (cross_before (read c.args.table) (read c.args.body) (read c.args.first) (read c.args.step)) (sym (add-one i)))
 
 pub returns : goal.returns

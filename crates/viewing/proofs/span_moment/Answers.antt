@@ -14,11 +14,11 @@ use Rattle.viewing.proofs.span_moment.Goals as goal
 use Rattle.viewing.proofs.span_moment.Goals.{In-Accepted, Start}
 
 module _ (s : Start) where
-  count-is : Num (read s.args.count) s.args.count 4000
-  count-is = known s.requires.1 tt
+  count_is : Num (read s.args.count) s.args.count 4000
+  count_is = known s.requires.1 tt
 
   steps : Num (read (read s.args.count -ℤ pos 1)) (s.args.count -ℤ pos 1) 4001
-  steps = sub count-is (lit (pos 1)) tt
+  steps = sub count_is (lit (pos 1)) tt
 
   step_is : Num (read s.args.step) s.args.step 1000000
   step_is = known s.requires.0 tt
@@ -37,7 +37,7 @@ module _ (s : Start) where
       λ i. span_of ((e ∙ ap (λ (t : ℤ). moment_after s.args.start t (pos 0)) table) i) ((f ∙ (λ j. moment_after s.args.start (table j) (offset.is j))) i)
 
 pub overflow_sub-count : goal.overflow_sub-count
-overflow_sub-count c = sub_fits (count-is c) (lit (pos 1)) tt
+overflow_sub-count c = sub_fits (count_is c) (lit (pos 1)) tt
 
 pub overflow_mul-step : goal.overflow_mul-step
 overflow_mul-step c = mul_fits (step_is c) (steps c) tt

@@ -45,8 +45,8 @@ minute_is : (c : In-Accepted) → read c.in-Accepted.first ≡ c.in-Accepted.fir
 minute_is c = search rules
 
 -- the span of this arm
-span-told : (c : In-Accepted) → span_moment c.args.start (read c.args.table) (read c.args.step) (read c.args.count) ≡ Accepted (read c.in-Accepted.first)
-span-told c = sym c.in-Accepted.ensures ∙ ap Accepted (sym (minute_is c))
+span_told : (c : In-Accepted) → span_moment c.args.start (read c.args.table) (read c.args.step) (read c.args.count) ≡ Accepted (read c.in-Accepted.first)
+span_told c = sym c.in-Accepted.ensures ∙ ap Accepted (sym (minute_is c))
 
 pub overflow_cast-count : goal.overflow_cast-count
 overflow_cast-count c =
@@ -58,9 +58,9 @@ pub viewing_from-requires : goal.viewing_from-requires
 viewing_from-requires c =
     let first = read c.in-Accepted.first in
     span_fits c.args.start (read c.args.table) (read c.args.step) (read c.args.count) first (within (goal.at.viewing_from-requires c).Else-not-is_search)
-    (span_is c.args.start (read c.args.table) (read c.args.step) (read c.args.count) first (span-told (goal.at.viewing_from-requires c).In-Accepted))
+    (span_is c.args.start (read c.args.table) (read c.args.step) (read c.args.count) first (span_told (goal.at.viewing_from-requires c).In-Accepted))
 
 pub returns-in-Accepted : goal.returns-in-Accepted
 returns-in-Accepted c =
     c.viewing_from.ensures
-    ∙ by (goal.at.returns-in-Accepted c).Start (is (goal.at.returns-in-Accepted c).Else-not-is_search) (span-told (goal.at.returns-in-Accepted c).In-Accepted)
+    ∙ by (goal.at.returns-in-Accepted c).Start (is (goal.at.returns-in-Accepted c).Else-not-is_search) (span_told (goal.at.returns-in-Accepted c).In-Accepted)

@@ -31,8 +31,8 @@ module _ (s : Start) where
   step_is : read s.args.step ≡ s.args.step
   step_is = back s.args.step s.ranges.step
 
-  span-read : SpanFits (read s.args.table) (read s.args.first) (read s.args.step) s.args.count
-  span-read =
+  span_read : SpanFits (read s.args.table) (read s.args.first) (read s.args.step) s.args.count
+  span_read =
       subst⁻¹ (λ (t : ℤ). SpanFits t (read s.args.first) (read s.args.step) s.args.count) table_is
       (subst⁻¹ (λ (f : ℤ). SpanFits s.args.table f (read s.args.step) s.args.count) first_is
       (subst⁻¹ (λ (d : ℤ). SpanFits s.args.table s.args.first d s.args.count) step_is s.requires))
@@ -58,7 +58,7 @@ pub search-looked-requires : goal.search-looked-requires
 search-looked-requires c =
     let e = c.before.before in
     let s = e.before.before in
-    record { sines_value = c.before.sines-sines.ensures; body = subst⁻¹ Body (body_is s) (planet_of s.args.body (planet e)).known; span_fits = span-read s }
+    record { sines_value = c.before.sines-sines.ensures; body = subst⁻¹ Body (body_is s) (planet_of s.args.body (planet e)).known; span_fits = span_read s }
 
 place_is : (c : After-search-looked) → c.search-looked.result ≡ place c.before.before.before.before.before
 place_is c =

@@ -7,8 +7,8 @@ use Rattle.angles.specs.Unit.{one_turn}
 use Rattle.angles.proofs.Angle.one_turn.Goals as goal
 use Rattle.angles.proofs.Angle.one_turn.Goals.{Start}
 
-self-is : (c : Start) → read c.args.self.0 ≡ c.args.self.0
-self-is c = search rules
+self_is : (c : Start) → read c.args.self.0 ≡ c.args.self.0
+self_is c = search rules
 
 pub returns : goal.returns
-returns c = back_ok c.within_turn.result c.within_turn.type_inv ∙ c.within_turn.ensures ∙ ap one_turn (self-is c.before.before)
+returns c = back_ok c.within_turn.result c.within_turn.type_inv ∙ c.within_turn.ensures ∙ ap one_turn (self_is c.before.before)
