@@ -12,7 +12,7 @@ import re
 import sys
 
 COMMENT = re.compile(r"//[^\n]*")
-PROMISE = re.compile(r"\b(?:requires|ensures)\s*\{[^{}]*\}")
+PROMISE = re.compile(r"\b(?:requires|ensures)\s*(?:\w+\s*)?\{[^{}]*\}")     # with its name, if it has one
 CALL = re.compile(r"(?<![.\w])((?:\w+::)*)(\w+)\s*\(")
 METHOD = re.compile(r"\.\s*(\w+)\s*\(")
 WORDS = {"if", "while", "match", "return", "in", "as"}   # may stand before "("
