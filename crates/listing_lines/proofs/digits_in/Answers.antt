@@ -5,14 +5,8 @@ use Prim.Native.Nat.{ℕ, ◌+◌, ◌*◌}
 use native.Mathlib.Omega.{arith}
 use lib.ListN.{drop}
 use Rattle.listing_lines.specs.Request.{digits_after}
-use Rattle.listing_lines.proofs.Scan.{none, too_many, some, at_end, at_other, at_digit, next_small}
+use Rattle.listing_lines.proofs.Scan.{some, at_end, at_other, at_digit, next_small}
 use Rattle.listing_lines.proofs.digits_in.Goals as goal
-
-pub returns-then-text-lt1 : goal.returns-then-text-lt1
-returns-then-text-lt1 c = sym (none _ c.if-text-lt1.true)
-
-pub returns-then-text-gt10 : goal.returns-then-text-gt10
-returns-then-text-gt10 c = sym (too_many c.args.text.now (omega arith) c.if-text-gt10.true)
 
 pub returns-then-not-is_digit : goal.returns-then-not-is_digit
 returns-then-not-is_digit c =
