@@ -2,9 +2,12 @@
 // What a line asks for and what is printed are the library's; here are the reads, the writes and the buffers.
 #![tactic(auto)]
 
-ghost use Rattle.std.specs.Prelude.{◌≡◌, ◌≤◌, ◌<◌, length, IfOk};
+ghost use Rattle.std.specs.Prelude.{◌≡◌, true, false, [], ◌++◌, ◌+◌, ◌-◌, ◌^◌, ◌≤◌, ◌<◌, length, take, IfOk, OnOk, IfSome};
+ghost use Rattle.std.specs.Io.KnownBytes.{Appends};
 ghost use Rattle.angles.specs.Sines.{sine_entries};
+ghost use Rattle.listing.specs.Listing.{Sends, IsTurn};
 ghost use Rattle.listing.specs.Parts.{PartEnd};
+ghost use Rattle.listing_lines.specs.Stream.{last_of, lines_from, listing_of, held_after, printed_after};
 
 use listing_lines::Fed;
 use std::io;
@@ -22,7 +25,8 @@ struct Turn {
 // that there is room for: what is ready goes out where it is more than 27,904.
 fn flushed<W: Write>(output: &mut W, out: &[u8], at: usize) -> io::Result<usize>
     requires { (at ≤ 65536) × (length out.now ≡ 65536) }
-    ensures { IfOk result (λ n. n ≤ 27904) }
+    ensures few { IfOk result (λ n. n ≤ 27904) }
+    ensures sent { IfOk result (λ n. Sends (W.contents output.old) (W.contents output.new) (take at out.now) (take n out.now)) }
 {
     if at <= 27_904 {
         return Ok(at);
@@ -55,7 +59,10 @@ fn take_block<W: Write>(
     requires sines_value { sines.now ≡ sine_entries }
     requires held_bound { (held ≤ 36) × (length text.old ≡ 36) }
     requires at_bound { (at ≤ 65536) × (length out.old ≡ 65536) }
-    ensures { IfOk result (λ fed. (fed.held ≤ 36) × (fed.at ≤ 65536)) }
+    ensures bounds { IfOk result (λ fed. (fed.held ≤ 36) × (fed.at ≤ 65536)) }
+    ensures held { IfOk result (λ fed. take fed.held text.new ≡ held_after (take held text.old) block.now) }
+    ensures sent { IfOk result (λ fed. Sends (W.contents output.old) (W.contents output.new)
+        (take at out.old ++ printed_after (take held text.old) block.now) (take fed.at out.new)) }
 {
     let mut n = held;
     let mut ready = at;
@@ -84,7 +91,10 @@ fn read_some<R: Read, W: Write>(
     requires sines_value { sines.now ≡ sine_entries }
     requires held_bound { (held ≤ 36) × (length text.old ≡ 36) }
     requires at_bound { (at ≤ 65536) × (length out.old ≡ 65536) }
-    ensures { IfOk result (λ turn. (turn.held ≤ 36) × (turn.at ≤ 65536)) }
+    ensures bounds { IfOk result (λ turn. (turn.held ≤ 36) × (turn.at ≤ 65536)) }
+    ensures turn { IfOk result (λ turn. IsTurn (R.remaining input.old) (R.remaining input.new)
+        (W.contents output.old) (W.contents output.new)
+        (take held text.old) (take turn.held text.new) (take at out.old) (take turn.at out.new) turn.more) }
 {
     let mut block = [0u8; 4096];
     let n = input.read(&mut block)?;
@@ -115,6 +125,7 @@ fn finish<W: Write>(
     requires sines_value { sines.now ≡ sine_entries }
     requires held_bound { (held ≤ 36) × (length text.now ≡ 36) }
     requires at_bound { (at ≤ 65536) × (length out.old ≡ 65536) }
+    ensures { OnOk result (Appends (W.contents output.old) (W.contents output.new) (take at out.old ++ last_of (take held text.now))) }
 {
     let free = flushed(output, &*out, at)?;
     let end = listing_lines::put_last(sines, text, held, &mut *out, free);
@@ -124,7 +135,9 @@ fn finish<W: Write>(
 // A proved loop has to end, and nothing says that the input does: the reads are counted down from a number that no run uses up.
 fn left(turns: u64, more: bool) -> u64
     requires { 0 < turns }
-    ensures { result < turns }
+    ensures less { result < turns }
+    ensures more { more ≡ true → result + 1 ≡ turns }
+    ensures end { more ≡ false → result ≡ 0 }
 {
     if more {
         return turns - 1;
@@ -132,6 +145,7 @@ fn left(turns: u64, more: bool) -> u64
     0
 }
 
+// All of the input, shorter than the count of reads: where no read and no write fails, its lines are printed.
 fn run<R: Read, W: Write>(
     input: &mut R,
     output: &mut W,
@@ -141,6 +155,8 @@ fn run<R: Read, W: Write>(
 ) -> io::Result<()>
     requires sines_value { sines.now ≡ sine_entries }
     requires text_len { (length text.old ≡ 36) × (length out.old ≡ 65536) }
+    ensures { OnOk result (IfSome (R.remaining input.old) (λ bytes. length bytes < 2 ^ 64 - 1 →
+        Appends (W.contents output.old) (W.contents output.new) (lines_from [] bytes))) }
 {
     let mut held = 0;
     let mut at = 0;
@@ -154,11 +170,18 @@ fn run<R: Read, W: Write>(
     finish(output, sines, &*text, held, &mut *out, at)
 }
 
-fn main(rt: HostRuntime) -> io::Result<()> {
-    let mut output = io::writer(&rt);
+// The listing of the input: the header, and a line for each of its lines.
+fn list<R: Read, W: Write>(input: &mut R, output: &mut W) -> io::Result<()>
+    ensures { OnOk result (IfSome (R.remaining input.old) (λ bytes. length bytes < 2 ^ 64 - 1 →
+        Appends (W.contents output.old) (W.contents output.new) (listing_of bytes))) }
+{
     output.write_all(b"minute body frame status x y z\n")?;
     let sines = angles::sines();
     let mut text = [0u8; 36];
     let mut out = [0u8; 65536];
-    run(&mut rt.reader(), &mut output, &sines, &mut text, &mut out)
+    run(input, output, &sines, &mut text, &mut out)
+}
+
+fn main(rt: HostRuntime) -> io::Result<()> {
+    list(&mut rt.reader(), &mut io::writer(&rt))
 }
