@@ -1,2 +1,3 @@
--- What the contracts of `listing` cite: where a part of a block ends.
+-- What the contracts of `listing` cite: where a part of a block ends, and what is read and written.
 pub mod Parts
+pub mod Listing

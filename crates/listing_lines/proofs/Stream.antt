@@ -133,7 +133,7 @@ last_cut : (line : List ℕ) → last_of line ≡ last_of (take 36 line)
 last_cut [] = refl
 last_cut (b ∷ l) = ap line_of (sym (cut (b ∷ l)))
 
-in_parts : (line input : List ℕ) → lines_from line input ≡ printed_after (take 36 line) input ++ last_of (held_after (take 36 line) input)
+pub in_parts : (line input : List ℕ) → lines_from line input ≡ printed_after (take 36 line) input ++ last_of (held_after (take 36 line) input)
 unfolding lines_from held_after printed_after
 in_parts line [] = last_cut line
 in_parts line (b ∷ l) = go (is_end b) (in_parts [] l) (in_parts (line ++ (b ∷ [])) l)

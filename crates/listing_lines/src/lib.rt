@@ -49,6 +49,7 @@ fn digit(b: u8) -> u64
 }
 
 // One to ten digits and nothing else.
+#[tactic(auto, using(crate::proofs::Scan::none, crate::proofs::Scan::too_many))]
 fn digits_in(text: &[u8]) -> Digits
     ensures { result ≡ digits_of text.now }
 {

@@ -1,13 +1,9 @@
 -- `digits_in` gives the number of one to ten digits, and nothing for any other text.
 -- Invariant: what is left to read from byte i on gives what the whole text gives, and the number so far is below 10^i.
-use borrow.Author.Tests.{not-true, not-false}
-use borrow.Author.Rules.{rules}
-use mathlib.Core.Path.{◌≡◌, sym, ap, ◌∙◌}
-use Prim.Native.Nat.{ℕ, ◌+◌, ◌-◌, ◌*◌, ◌^◌, ◌≤◌, ◌<◌}
-use native.Mathlib.Omega.{arith}
+use mathlib.Core.Path.{◌≡◌}
+use Prim.Native.Nat.{◌-◌, ◌^◌, ◌≤◌, ◌<◌}
 use lib.ListN.{length, drop}
 use Rattle.listing_lines.specs.Request.{digits_after}
-use Rattle.listing_lines.proofs.Scan.{none, too_many, some, at_end, at_other, at_digit, next_small, ten_small}
 use Rattle.listing_lines.proofs.digits_in.Given as goal
 
 abbrev pub invariant-loop-i : goal.invariant-loop-i

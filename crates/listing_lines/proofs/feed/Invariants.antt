@@ -1,17 +1,10 @@
 -- `feed` prints the lines that end in a part of the input, and holds what follows the last.
 -- Invariant: of the bytes before byte i the lines are printed, in at most 147 bytes for a byte, and the rest is held.
-use borrow.Author.Rules.{rules}
-use mathlib.Core.List.{List, [], ◌∷◌, ◌++◌}
-use mathlib.Core.Path.{◌≡◌, refl, sym, ap, subst, subst⁻¹, ◌∙◌}
-use Prim.Native.Nat.{ℕ, ◌+◌, ◌-◌, ◌*◌, ◌≤◌}
-use native.Mathlib.Omega.{arith}
-use lib.ListN.{length, take, get_or, set}
-use lib.Seq.{take_all}
-use Rattle.listing_lines.specs.Line.{printed_of}
+use mathlib.Core.Path.{◌≡◌}
+use Prim.Native.Nat.{◌+◌, ◌-◌, ◌*◌, ◌≤◌}
+use lib.ListN.{length, take}
 use Rattle.listing_lines.specs.Put.{Put}
-use Rattle.listing_lines.specs.Stream.{held_after, printed_after, one_more, count_after, text_after}
-use Rattle.listing_lines.proofs.Puts.{put_none, put_then}
-use Rattle.listing_lines.proofs.Stream.{held_end, held_other, printed_end, printed_other, count_end, count_other, text_end, text_other, kept, more_few}
+use Rattle.listing_lines.specs.Stream.{held_after, printed_after, count_after, text_after}
 use Rattle.listing_lines.proofs.feed.Given as goal
 
 abbrev pub invariant-loop-i : goal.invariant-loop-i

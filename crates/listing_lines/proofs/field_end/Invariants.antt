@@ -1,12 +1,9 @@
 -- `field_end` gives how many bytes stand before the first space.
 -- Invariant: the first space of what is left from byte i on is that of the whole text.
-use borrow.Author.Rules.{rules}
 use mathlib.Core.Path.{◌≡◌}
 use Prim.Native.Nat.{◌+◌, ◌-◌, ◌≤◌}
-use native.Mathlib.Omega.{arith}
 use lib.ListN.{length, drop}
 use Rattle.listing_lines.specs.Request.{space_at}
-use Rattle.listing_lines.proofs.Fields.{no_space, at_space, at_none}
 use Rattle.listing_lines.proofs.field_end.Given as goal
 
 abbrev pub invariant-loop-i : goal.invariant-loop-i

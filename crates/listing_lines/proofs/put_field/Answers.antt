@@ -8,16 +8,12 @@ use Rattle.integers.proofs.Cast.{back}
 use Rattle.listing_lines.specs.Decimal.{signed_of}
 use Rattle.listing_lines.specs.Put.{Put}
 use Rattle.listing_lines.proofs.Puts.{put_then}
-use borrow.Author.Rules.{rules}
 use Rattle.listing_lines.proofs.put_field.Goals as goal
 
 pub returns : goal.returns
-returns c =
-    let p = c.before.before in
-    let n = p.before.before.before.before in
-    let s = n.before.before.before in (
-      subst (λ (z : ℤ). Put s.args.at (signed_of z ++ (s.args.end ∷ [])) s.args.bytes.now p.put_byte.new.bytes p.put_byte.result)
-          (back s.args.z s.ranges.z)
-          (put_then (omega (arith, s.requires)) n.put_number-next.ensures.0 p.put_byte.ensures),
-      omega (arith, p.put_byte.ensures.next, n.put_number-next.ensures.1),
-    )
+returns c = (
+  subst (λ (z : ℤ). Put c.args.at (signed_of z ++ (c.args.end ∷ [])) c.args.bytes.now c.put_byte.new.bytes c.put_byte.result)
+      (back c.args.z c.ranges.z)
+      (put_then (omega (arith, c.requires)) c.put_number-next.ensures.0 c.put_byte.ensures),
+  omega (arith, c.put_byte.ensures.next, c.put_number-next.ensures.1),
+)

@@ -10,25 +10,20 @@ use Rattle.listing_lines.specs.Put.{Put}
 use Rattle.listing_lines.specs.Stream.{last_of}
 use Rattle.listing_lines.proofs.Puts.{put_none}
 use Rattle.listing_lines.proofs.Stream.{last_is}
-use borrow.Author.Rules.{rules}
 use Rattle.listing_lines.proofs.put_last.Goals as goal
 
 pub returns-then-held-eq0 : goal.returns-then-held-eq0
-returns-then-held-eq0 c =
-    let s = c.before.before.before in (
-      subst⁻¹ (λ (k : ℕ). Put s.args.at (last_of (take k s.args.text.now)) s.args.bytes.now s.args.bytes.now s.args.at) c.if-held-eq0.true
-          (put_none s.args.bytes.now s.args.at (omega (arith, s.requires.at_in_bounds))),
-      omega arith,
-    )
+returns-then-held-eq0 c = (
+  subst⁻¹ (λ (k : ℕ). Put c.args.at (last_of (take k c.args.text.now)) c.args.bytes.now c.args.bytes.now c.args.at) c.if-held-eq0.true
+      (put_none c.args.bytes.now c.args.at (omega (arith, c.requires.at_in_bounds))),
+  omega arith,
+)
 
 pub returns : goal.returns
 returns c =
-    let p = c.before.before in
-    let branch = p.before.before in
-    let s = branch.before.before.before in
-    let line = take s.args.held s.args.text.now in (
-      subst (λ (t : List ℕ). Put s.args.at t s.args.bytes.now p.put_held.new.bytes p.put_held.result)
-          (sym (last_is line (omega (arith, length-take-le s.args.held s.args.text.now s.requires.held_in_bounds, branch.if-held-eq0.false))))
-          p.put_held.ensures.0,
-      p.put_held.ensures.1,
+    let line = take c.args.held c.args.text.now in (
+      subst (λ (t : List ℕ). Put c.args.at t c.args.bytes.now c.put_held.new.bytes c.put_held.result)
+          (sym (last_is line (omega (arith, length-take-le c.args.held c.args.text.now c.requires.held_in_bounds, c.if-held-eq0.false))))
+          c.put_held.ensures.0,
+      c.put_held.ensures.1,
     )

@@ -3,10 +3,10 @@
 use borrow.Author.Rules.{rules}
 use mathlib.Core.List.{List, [], ◌∷◌, ◌++◌}
 use mathlib.Core.Path.{◌≡◌, refl, sym, subst, ◌∙◌}
-use Prim.Native.Nat.{ℕ, ◌+◌, ◌*◌, ◌-◌, ◌≤◌}
+use Prim.Native.Nat.{ℕ}
 use native.Mathlib.Omega.{arith}
 use lib.IntN.{ℤ, pos}
-use lib.ListN.{length, take, get_or}
+use lib.ListN.{take, get_or}
 use Rattle.integers.proofs.Cast.{read, back}
 use Rattle.integers.proofs.Arrays.{part_fits}
 use Rattle.listing_lines.specs.Decimal.{signed_of}
@@ -20,42 +20,33 @@ use Rattle.listing_lines.proofs.put_numbers.Goals.{Start}
 entry : (s : Start) (i : ℕ) → read (get_or s.args.numbers i (pos 0)) ≡ get_or s.args.numbers i (pos 0)
 entry s i = back (get_or s.args.numbers i (pos 0)) (part_fits s.args.numbers s.well_formed.0.0 s.well_formed.0.1.1 i)
 
-all-seven : (s : Start) → length s.args.numbers ≡ 7
-all-seven s = search rules
-
 pub loop-i-init : goal.loop-i-init
 unfolding spaced
-loop-i-init c = (omega arith, put_none c.before.args.bytes.now c.before.args.at (omega (arith, c.before.requires)), omega arith, refl)
+loop-i-init c = (omega arith, put_none c.args.bytes.now c.args.at (omega (arith, c.requires)), omega arith, refl)
 
 pub loop-i-preserved : goal.loop-i-preserved
 loop-i-preserved c =
-    let f = c.before.before in
-    let at = f.before.before.before.before in
-    let s = at.before.before in
-    let v = at.loop-i.invariant in
-    let i = at.loop-i.i in
-    let l = s.args.numbers in (
+    let v = c.loop-i.invariant in
+    let i = c.loop-i.i in
+    let l = c.args.numbers in (
       omega arith,
-      subst (λ (t : List ℕ). Put s.args.at t s.args.bytes.now f.put_field-next.new.bytes f.put_field-next.result)
-          (sym (spaced_more l i (omega (arith, all-seven s))))
-          (put_then (omega (arith, s.requires)) v.1
-          (subst (λ (z : ℤ). Put at.loop-i.next (signed_of z ++ (32 ∷ [])) at.loop-i.bytes f.put_field-next.new.bytes f.put_field-next.result) (entry s i) f.put_field-next.ensures.0)),
-      omega (arith, f.put_field-next.ensures.1, v.2),
-      f.put_field-next.auto.bytes ∙ v.3,
+      subst (λ (t : List ℕ). Put c.args.at t c.args.bytes.now c.put_field-next.new.bytes c.put_field-next.result)
+          (sym (spaced_more l i (omega arith)))
+          (put_then (omega (arith, c.requires)) v.1
+          (subst (λ (z : ℤ). Put c.loop-i.next (signed_of z ++ (32 ∷ [])) c.loop-i.bytes c.put_field-next.new.bytes c.put_field-next.result) (entry (goal.at.loop-i-preserved c).Start i) c.put_field-next.ensures.0)),
+      omega (arith, c.put_field-next.ensures.1, v.2),
+      c.put_field-next.auto.bytes ∙ v.3,
     )
 
 pub returns : goal.returns
 returns c =
-    let f = c.before.before in
-    let at = f.before.before.before.before in
-    let s = at.before.before in
-    let v = at.loop-i.invariant in
-    let six : at.loop-i.i ≡ 6 = omega arith in
-    let l = s.args.numbers in (
-      subst (λ (t : List ℕ). Put s.args.at t s.args.bytes.now f.put_field.new.bytes f.put_field.result)
-          (sym (seven l (all-seven s)))
-          (put_then (omega (arith, s.requires))
-          (subst (λ (k : ℕ). Put s.args.at (spaced (take k l)) s.args.bytes.now at.loop-i.bytes at.loop-i.next) six v.1)
-          (subst (λ (z : ℤ). Put at.loop-i.next (signed_of z ++ (10 ∷ [])) at.loop-i.bytes f.put_field.new.bytes f.put_field.result) (entry s 6) f.put_field.ensures.0)),
-      omega (arith, f.put_field.ensures.1, v.2),
+    let v = c.loop-i.invariant in
+    let six : c.loop-i.i ≡ 6 = omega arith in
+    let l = c.args.numbers in (
+      subst (λ (t : List ℕ). Put c.args.at t c.args.bytes.now c.put_field.new.bytes c.put_field.result)
+          (sym (seven l (search rules)))
+          (put_then (omega (arith, c.requires))
+          (subst (λ (k : ℕ). Put c.args.at (spaced (take k l)) c.args.bytes.now c.loop-i.bytes c.loop-i.next) six v.1)
+          (subst (λ (z : ℤ). Put c.loop-i.next (signed_of z ++ (10 ∷ [])) c.loop-i.bytes c.put_field.new.bytes c.put_field.result) (entry (goal.at.returns c).Start 6) c.put_field.ensures.0)),
+      omega (arith, c.put_field.ensures.1, v.2),
     )
