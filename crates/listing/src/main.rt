@@ -1,5 +1,6 @@
 // The listing program: lines of minute, body and frame from standard input, and the answer to each on a line of standard output.
-// What a line asks for and what is printed are the library's; here are the reads, the writes and the buffers.
+// What a line asks for and what is printed are the library's; here are the reads, the writes and the buffers. The only errors are those
+// of a read or a write, which end the program: of what was ready then, any part may have gone out, and lent buffers keep their lengths.
 #![tactic(auto)]
 
 ghost use Rattle.std.specs.Prelude.{◌≡◌, true, false, [], ◌++◌, ◌+◌, ◌-◌, ◌^◌, ◌≤◌, ◌<◌, length, take, IfOk, OnOk, IfSome};
@@ -63,6 +64,7 @@ fn take_block<W: Write>(
     ensures held { IfOk result (λ fed. take fed.held text.new ≡ held_after (take held text.old) block.now) }
     ensures sent { IfOk result (λ fed. Sends (W.contents output.old) (W.contents output.new)
         (take at out.old ++ printed_after (take held text.old) block.now) (take fed.at out.new)) }
+    ensures kept { (length text.new ≡ length text.old) × (length out.new ≡ length out.old) }
 {
     let mut n = held;
     let mut ready = at;
@@ -95,6 +97,7 @@ fn read_some<R: Read, W: Write>(
     ensures turn { IfOk result (λ turn. IsTurn (R.remaining input.old) (R.remaining input.new)
         (W.contents output.old) (W.contents output.new)
         (take held text.old) (take turn.held text.new) (take at out.old) (take turn.at out.new) turn.more) }
+    ensures kept { (length text.new ≡ length text.old) × (length out.new ≡ length out.old) }
 {
     let mut block = [0u8; 4096];
     let n = input.read(&mut block)?;
@@ -125,7 +128,8 @@ fn finish<W: Write>(
     requires sines_value { sines.now ≡ sine_entries }
     requires held_bound { (held ≤ 36) × (length text.now ≡ 36) }
     requires at_bound { (at ≤ 65536) × (length out.old ≡ 65536) }
-    ensures { OnOk result (Appends (W.contents output.old) (W.contents output.new) (take at out.old ++ last_of (take held text.now))) }
+    ensures sent { OnOk result (Appends (W.contents output.old) (W.contents output.new) (take at out.old ++ last_of (take held text.now))) }
+    ensures kept { length out.new ≡ length out.old }
 {
     let free = flushed(output, &*out, at)?;
     let end = listing_lines::put_last(sines, text, held, &mut *out, free);
@@ -155,8 +159,9 @@ fn run<R: Read, W: Write>(
 ) -> io::Result<()>
     requires sines_value { sines.now ≡ sine_entries }
     requires text_len { (length text.old ≡ 36) × (length out.old ≡ 65536) }
-    ensures { OnOk result (IfSome (R.remaining input.old) (λ bytes. length bytes < 2 ^ 64 - 1 →
+    ensures listed { OnOk result (IfSome (R.remaining input.old) (λ bytes. length bytes < 2 ^ 64 - 1 →
         Appends (W.contents output.old) (W.contents output.new) (lines_from [] bytes))) }
+    ensures kept { (length text.new ≡ length text.old) × (length out.new ≡ length out.old) }
 {
     let mut held = 0;
     let mut at = 0;

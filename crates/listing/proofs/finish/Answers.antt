@@ -6,8 +6,8 @@ use Rattle.listing_lines.specs.Stream.{last_of}
 use Rattle.listing.proofs.Sending.{on_ok, sends_all, put_behind}
 use Rattle.listing.proofs.finish.Goals as goal
 
-pub returns : goal.returns
-returns g c =
+pub returns-clause-sent : goal.returns-clause-sent
+returns-clause-sent g c =
     let mid = g.W.Write.contents c.flushed.new.output in
     let after = g.W.Write.contents c.write_all.new.self in
     let last = last_of (take c.args.held c.args.text.now) in

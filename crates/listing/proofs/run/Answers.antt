@@ -38,8 +38,8 @@ loop-turns-preserved g c =
       turn_counted {line = line} {ready = ready} t v.4 c.loop-turns.turns c.left-turns.result c.loop-turns-test.true c.left-turns.ensures.more c.left-turns.ensures.end v.8,
     )
 
-pub returns : goal.returns
-returns g c =
+pub returns-clause-listed : goal.returns-clause-listed
+returns-clause-listed g c =
     let v = c.loop-turns.invariant in
     let mid = g.W.Write.contents c.loop-turns.output in
     let after = g.W.Write.contents c.finish.new.output in
@@ -48,4 +48,4 @@ returns g c =
     on_ok c.finish.result
     (λ (w : Appends mid after (ready ++ last_of held)).
     all_printed (g.R.Read.remaining c.args.input.now) (g.R.Read.remaining c.loop-turns.input) (g.W.Write.contents c.args.output.now) mid after v.4 held ready c.loop-turns.turns c.loop-turns-test.false v.5 v.6 v.7 v.8 w)
-    c.finish.ensures
+    c.finish.ensures.sent
