@@ -44,7 +44,7 @@ returns-then-x-gt1070 c =
     ∙ sym (ap (λ f. held (minute_of_julian f)) (fields s) ∙ far_minute (negative d) (exponent d) (digits d) e.if-x-gt1070.true l)
 
 pub minute_of_fields-requires : goal.minute_of_fields-requires
-minute_of_fields-requires c = record { near = c.if-x-gt1070.false; digits = digits_below c.before.before.before.args.d }
+minute_of_fields-requires c = record { near = omega arith; digits = digits_below c.before.before.before.args.d }
 
 pub returns : goal.returns
 returns c =

@@ -7,9 +7,8 @@ use lib.IntN.{pos}
 use Rattle.integers.proofs.Cast.{read}
 use Rattle.integers.proofs.Ring.{zero_minus}
 use Rattle.integers.proofs.Number.{Num, known, lit, sub_fits, sub}
-use Rattle.integers.specs.Triple.{at}
+use Rattle.integers.specs.Triple.{at, PartsWithin}
 use Rattle.vectors.specs.Vector.{unit_of}
-use Rattle.integers.specs.Triple.{PartsWithin}
 use Rattle.frames.specs.Frame.{on_ecliptic, hee_of, hee_rows}
 use Rattle.integers.proofs.Triples.{parts_more}
 use Rattle.frames.proofs.Rows.{ecliptic_small, unit_of_place}

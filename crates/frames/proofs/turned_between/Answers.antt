@@ -46,7 +46,6 @@ hae_turned-requires-2 c =
 pub returns : goal.returns
 unfolding turned_between
 returns c =
-    let s = c.before.before in
-    let t = s.before in
+    let t = c.before.before.before in
     c.hae_turned-2.ensures ∙ (λ i. hae_turned false (to_is t i) t.args.earth (on_the_way c.before i))
-    ∙ rw (other_by_bits t.ranges.from t.ranges.to s.if-from-to.false)
+    ∙ rw (other_by_bits t.ranges.from t.ranges.to (search rules))

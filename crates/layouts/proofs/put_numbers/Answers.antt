@@ -9,14 +9,10 @@ use borrow.Rule.Slice.PartMut.{mid_of, mid_len}
 use Rattle.integers.proofs.Cast.{back_ok}
 use Rattle.layouts.proofs.Seams.{seam_next, laid_none, laid_more, laid_all, laid_long}
 use Rattle.layouts.proofs.put_numbers.Goals as goal
-use Rattle.layouts.proofs.put_numbers.Goals.{At-loop-i, In-loop-i}
+use Rattle.layouts.proofs.put_numbers.Goals.{In-loop-i}
 
 pub loop-i-init : goal.loop-i-init
 loop-i-init c = let a = c.before.before.args in laid_none a.widths.now a.numbers.now a.bytes.now
-
--- the bytes keep their number
-long : (c : At-loop-i) → length c.loop-i.bytes ≡ length c.args.bytes.now
-long c = laid_long c.loop-i.invariant c.requires.widths_in_bounds
 
 -- there is room for the field of a round
 room : (c : In-loop-i) → let l = c.loop-i in l.at + get_or c.args.widths.now l.i 0 ≤ length l.bytes

@@ -2,7 +2,6 @@
 -- The match tells the row's line by its bits, and each constant is that line of the two tables by computation; the last is line 18.
 use borrow.Author.Rules.{rules}
 use native.Mathlib.Omega.{arith}
-use borrow.Author.Rules.{rules}
 use mathlib.Core.Bool.{Bool, true, false}
 use mathlib.Core.List.{List, [], ◌++◌}
 use mathlib.Core.Path.{◌≡◌, subst, sym, ap, ◌∙◌}

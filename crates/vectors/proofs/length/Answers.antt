@@ -4,10 +4,9 @@ use mathlib.Core.Path.{◌≡◌, subst, sym, ap, ◌∙◌}
 use Prim.Native.Nat.{ℕ, ◌+◌, ◌≤◌}
 use native.Mathlib.Omega.{arith}
 use Rattle.integers.specs.Root.{root_of}
-use Rattle.integers.proofs.Number.{known}
+use Rattle.integers.proofs.Number.{known, w_read}
 use Rattle.integers.specs.Triple.{at}
 use Rattle.vectors.specs.Vector.{square_of, length_of}
-use Rattle.integers.proofs.Number.{w_read}
 use Rattle.vectors.proofs.Lengths.{squares_small, squares_fit, length_small}
 use Rattle.vectors.proofs.length.Goals as goal
 use Rattle.vectors.proofs.length.Goals.{After-square, After-square-2, After-square-3}

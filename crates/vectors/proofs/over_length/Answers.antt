@@ -11,10 +11,9 @@ use mir.Val.{to_z}
 use Rattle.integers.specs.Floor.{floor_div}
 use Rattle.integers.proofs.Difference.{zarith}
 use Rattle.integers.proofs.Cast.{read, back_ok, of_nat}
-use Rattle.integers.proofs.Number.{known}
+use Rattle.integers.proofs.Number.{known, w_read}
 use Rattle.integers.specs.Triple.{at}
 use Rattle.vectors.specs.Vector.{over_length}
-use Rattle.integers.proofs.Number.{w_read}
 use Rattle.vectors.proofs.over_length.Goals as goal
 use Rattle.vectors.proofs.over_length.Goals.{Else-l-eq0}
 
