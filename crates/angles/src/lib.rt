@@ -1,5 +1,4 @@
 // The two units of angles, one turn, and the sine and cosine of any angle by document 01's table of 901 entries.
-// The table is a constant, and each mention of a constant builds it anew: an entry point asks for it once and lends it down.
 #![tactic(auto)]
 
 ghost use Rattle.std.specs.Prelude.{◌≡◌, ◌≤◌, ◌<◌, ◌+◌, ◌-◌, pos, nat_abs, ◌+ℤ◌, ◌-ℤ◌};
@@ -12,11 +11,11 @@ ghost use Rattle.angles.specs.Sine.{folded, quarter_sine, half_sine, with_sign_o
 mod table;
 
 // An angle in millionths of a degree. Its count is private to this crate, so that only named functions convert it.
-#[derive(Clone, Copy)]
+#[derive(Clone, Copy, Debug, PartialEq, Eq)]
 pub struct Angle(i64);
 
 // An element of an orbit in hundred-millionths: of a degree, of an au, or of 1.
-#[derive(Clone, Copy)]
+#[derive(Clone, Copy, Debug, PartialEq, Eq)]
 pub struct Element(i64);
 
 impl Angle {
@@ -108,80 +107,81 @@ fn folded(t: u64) -> u64
     if t < 90_000_000 { t } else { 180_000_000 - t }
 }
 
-// The table, for an entry point to lend.
-pub fn sines() -> [u32; 901]
-    ensures { result ≡ sine_entries }
-{
-    table::SINES
+// Document 01's table of sines. A constant is built anew wherever it is named, so an entry point makes one and lends it down.
+#[derive(Drop)]
+pub struct Sines {
+    entries: [u32; 901],
+    ghost ruled: { entries ≡ sine_entries },
 }
 
-// Entry n of the lent table.
-pub fn entry(sines: &[u32; 901], n: usize) -> u64
-    requires sines_value { sines.now ≡ sine_entries }
-    requires n_bound { n ≤ 900 }
-    ensures { result ≡ entry n }
-{
-    sines[n] as u64
-}
-
-// The sine of t from 0 to 90 degrees, on the line between two entries.
-pub fn quarter_sine(sines: &[u32; 901], t: u64) -> u64
-    requires sines_value { sines.now ≡ sine_entries }
-    requires t_bound { t ≤ 90000000 }
-    ensures { result ≡ quarter_sine t }
-{
-    let k = (t / 100_000) as usize;
-    if k == 900 {
-        return entry(sines, 900);
+impl Sines {
+    pub fn new() -> Sines {
+        Sines {
+            entries: table::SINES,
+        }
     }
-    let low = entry(sines, k);
-    let high = entry(sines, k + 1);
-    low + (high - low) * (t % 100_000) / 100_000
-}
 
-// The sine of t from 0 to 180 degrees.
-pub fn half_sine(sines: &[u32; 901], t: u64) -> u64
-    requires sines_value { sines.now ≡ sine_entries }
-    requires t_bound { t ≤ 180000000 }
-    ensures { result ≡ half_sine t }
-{
-    quarter_sine(sines, folded(t))
-}
-
-// By how much the table rises in the tenth of a degree around t, t from 0 to 180 degrees. Only guesses go by it.
-pub fn rise(sines: &[u32; 901], t: u64) -> u64
-    requires sines_value { sines.now ≡ sine_entries }
-    requires t_bound { t ≤ 180000000 }
-    ensures { result ≡ rise_of t }
-{
-    let k = (folded(t) / 100_000) as usize;
-    if k == 900 {
-        return 0;
+    // Entry n of the table.
+    pub fn entry(&self, n: usize) -> u64
+        requires { n ≤ 900 }
+        ensures { result ≡ entry n }
+    {
+        u64::from(self.entries[n])
     }
-    entry(sines, k + 1) - entry(sines, k)
-}
 
-// The sine of t that lies in one turn.
-fn turn_sine(sines: &[u32; 901], t: i64) -> i64
-    requires sines_value { sines.now ≡ sine_entries }
-    requires within { Within 180000000 t }
-    ensures { result ≡ with_sign_of t (half_sine (nat_abs t)) }
-{
-    integers::with_sign(t < 0, half_sine(sines, integers::size(t)))
-}
+    // The sine of t from 0 to 90 degrees, on the line between two entries.
+    pub fn quarter_sine(&self, t: u64) -> u64
+        requires { t ≤ 90000000 }
+        ensures { result ≡ quarter_sine t }
+    {
+        let k = (t / 100_000) as usize;
+        if k == 900 {
+            return self.entry(900);
+        }
+        let low = self.entry(k);
+        let high = self.entry(k + 1);
+        low + (high - low) * (t % 100_000) / 100_000
+    }
 
-// The sine of any angle, 10^9 standing for one.
-pub fn sine(sines: &[u32; 901], angle: Angle) -> i64
-    requires { sines.now ≡ sine_entries }
-    ensures { result ≡ sine_of (millionths angle) }
-{
-    turn_sine(sines, within_turn(angle.0))
-}
+    // The sine of t from 0 to 180 degrees.
+    pub fn half_sine(&self, t: u64) -> u64
+        requires { t ≤ 180000000 }
+        ensures { result ≡ half_sine t }
+    {
+        self.quarter_sine(folded(t))
+    }
 
-// The cosine of any angle.
-pub fn cosine(sines: &[u32; 901], angle: Angle) -> i64
-    requires { sines.now ≡ sine_entries }
-    ensures { result ≡ cosine_of (millionths angle) }
-{
-    turn_sine(sines, quarter_on(within_turn(angle.0)))
+    // By how much the table rises in the tenth of a degree around t, t from 0 to 180 degrees. Only guesses go by it.
+    pub fn rise(&self, t: u64) -> u64
+        requires { t ≤ 180000000 }
+        ensures { result ≡ rise_of t }
+    {
+        let k = (folded(t) / 100_000) as usize;
+        if k == 900 {
+            return 0;
+        }
+        self.entry(k + 1) - self.entry(k)
+    }
+
+    // The sine of t that lies in one turn.
+    fn turn_sine(&self, t: i64) -> i64
+        requires { Within 180000000 t }
+        ensures { result ≡ with_sign_of t (half_sine (nat_abs t)) }
+    {
+        integers::with_sign(t < 0, self.half_sine(integers::size(t)))
+    }
+
+    // The sine of any angle, 10^9 standing for one.
+    pub fn sine(&self, angle: Angle) -> i64
+        ensures { result ≡ sine_of (millionths angle) }
+    {
+        self.turn_sine(within_turn(angle.0))
+    }
+
+    // The cosine of any angle.
+    pub fn cosine(&self, angle: Angle) -> i64
+        ensures { result ≡ cosine_of (millionths angle) }
+    {
+        self.turn_sine(quarter_on(within_turn(angle.0)))
+    }
 }

@@ -13,11 +13,11 @@ use Rattle.angles.specs.Unit.{one_turn, angle_of}
 use Rattle.angles.specs.Sine.{sine_of}
 use Rattle.angles.proofs.Turns.{one_turn_low, one_turn_high, one_turn_again}
 use Rattle.refusals.specs.declared.Refusal.TheVariants.{NoEllipse}
+use Rattle.std.specs.Prelude.{Ok, Err}
 use Rattle.kepler.specs.Equation.{e_star, F, error_of, Candidate, Elliptic, Solves}
 use Rattle.kepler.specs.Eccentric.{angle_at, last_below, nearer_of, eccentric}
 use Rattle.kepler.specs.Answer.{is_elliptic, solved_if, solved_of, Answers}
 use Rattle.kepler.specs.Search.{raised, point_of}
-use Rattle.kepler.specs.declared.AnomalyAnswer.TheVariants.{Anomaly, Refused}
 use Rattle.kepler.proofs.Rising.{monotone}
 use Rattle.kepler.proofs.Grid.{star, star_small, rising, at_point, point_below, point_mono, solves, nearest_of}
 use Rattle.kepler.proofs.Halving.{taken}
@@ -77,10 +77,10 @@ pub error_below : (e M : ℤ) → Elliptic e → error_of (e_star e) (one_turn M
 error_below e M h = (eccentric_solves e M h).near
 
 -- ---- no M is refused, and every other e is
-pub none_refused : (e M : ℤ) → Elliptic e → solved_of e M ≡ Anomaly (angle_of (eccentric e M))
+pub none_refused : (e M : ℤ) → Elliptic e → solved_of e M ≡ Ok (angle_of (eccentric e M))
 none_refused e M h = ap (λ (b : Bool). solved_if b e M) (is_inside (pos 0) (pos 90000000) e h)
 
-pub refused_otherwise : (e M : ℤ) → (Elliptic e → ⊥) → solved_of e M ≡ Refused NoEllipse
+pub refused_otherwise : (e M : ℤ) → (Elliptic e → ⊥) → solved_of e M ≡ Err NoEllipse
 refused_otherwise e M h = ap (λ (b : Bool). solved_if b e M) (is_outside (pos 0) (pos 90000000) e h)
 
 -- the definition's answer is what document 01 asks for in its own words
@@ -122,5 +122,5 @@ unfolding eccentric
 turn_first e M = go (is_elliptic e)
   where
     go : (b : Bool) → solved_if b e (one_turn M) ≡ solved_if b e M
-    go true = ap (λ (z : ℤ). Anomaly (angle_of (nearer_of (e_star e) z (last_below (e_star e) z)))) (one_turn_again M)
+    go true = ap (λ (z : ℤ). Ok (angle_of (nearer_of (e_star e) z (last_below (e_star e) z)))) (one_turn_again M)
     go false = refl

@@ -1,5 +1,5 @@
 -- Document 01, "Numbered refusals", and document 02, Items 1 and 3: the number of each.
-use Rattle.std.specs.Prelude.{ℤ, pos}
+use Rattle.std.specs.Prelude.{ℤ, pos, Result, Ok, Err}
 use Rattle.refusals.specs.declared.Refusal.{Refusal}
 use Rattle.refusals.specs.declared.Refusal.TheVariants.{NotFinite, OutsideInterval, NoSuchBody, NoSuchFrame, TooFar, NoDirection, NoEllipse, ShortBuffer, NoRow, BadCount, NoSuchTable, NoSuchDate}
 
@@ -16,3 +16,8 @@ number_of NoRow = pos 9
 number_of BadCount = pos 10
 number_of NoSuchTable = pos 11
 number_of NoSuchDate = pos 12
+
+-- the number of an answer: 0 where there is one, else its refusal's
+abbrev pub status_of : {A : Type 0} → Result A Refusal → ℤ
+status_of (Ok x) = pos 0
+status_of (Err r) = number_of r

@@ -10,7 +10,7 @@ use Rattle.angles.specs.Unit.{millionths, one_turn}
 use Rattle.kepler.specs.Equation.{Candidate, Elliptic, Solves}
 use Rattle.kepler.specs.Eccentric.{angle_at}
 use Rattle.kepler.specs.Search.{point_of}
-use Rattle.kepler.proofs.Grid.{star_small, solves}
+use Rattle.kepler.proofs.Grid.{solves}
 use Rattle.kepler.proofs.Demand.{turned, point_of_turn, turn_below_end, only_one_solves}
 use Rattle.kepler.proofs.eccentric.Goals as goal
 use Rattle.kepler.proofs.eccentric.Goals.{After-grid_point-target, After-millionths-m, After-nearest-n, After-of_millionths}
@@ -31,20 +31,17 @@ pub overflow_mul-target : goal.overflow_mul-target
 overflow_mul-target c = omega (arith, below c)
 
 pub first_guess-requires : goal.first_guess-requires
-first_guess-requires c =
-    let s = c.before.before.before in
-    record { sines_value = s.requires.sines_value; es_bound = star_small s.args.e s.requires.e_bound; target_bound = omega (arith, below c) }
+first_guess-requires c = omega (arith, below (goal.at.first_guess-requires c).After-grid_point-target)
 
 pub nearest-n-requires : goal.nearest-n-requires
-nearest-n-requires c =
-    record { sines_value = c.requires.sines_value; es_bound = star_small c.args.e c.requires.e_bound; target_bound = omega (arith, below c.before) }
+nearest-n-requires c = omega (arith, below (goal.at.nearest-n-requires c).After-grid_point-target)
 
-solved : (c : After-nearest-n) → Solves (pos c.before.before.before.before.before.args.e) (millionths c.before.before.before.before.before.args.mean) (angle_at c.nearest-n.result)
+solved : (c : After-nearest-n) → Solves (pos c.before.before.before.before.before.before.before.before.args.e) (millionths c.before.before.before.before.before.before.before.before.args.mean) (angle_at c.nearest-n.result)
 solved c =
-    let p = c.before.before in
+    let p = c.before.before.before.before.before in
     let s = p.before.before.before in
     let M = millionths s.args.mean in
-    solves s.args.e s.requires.e_bound M p.grid_point-target.result (point_of_turn M ∙ ap angle_at (sym (point p))) c.nearest-n.result c.nearest-n.ensures.nearest c.nearest-n.ensures.result_bound
+    solves s.args.e s.requires M p.grid_point-target.result (point_of_turn M ∙ ap angle_at (sym (point p))) c.nearest-n.result c.nearest-n.ensures.nearest c.nearest-n.ensures.result_bound
 
 result : (c : After-of_millionths) → millionths c.of_millionths.result ≡ angle_at c.before.before.nearest-n.result
 result c = c.of_millionths.ensures ∙ back_ok c.before.angle_at.result c.before.angle_at.type_inv ∙ c.before.angle_at.ensures
@@ -54,8 +51,8 @@ elliptic e h = record { low = record { le = le→leb 0 e (omega arith) }; high =
 
 pub returns : goal.returns
 returns c =
-    let s = c.before.before.before.before.before.before.before in
+    let s = c.before.before.before.before.before.before.before.before.before.before in
     let e = pos s.args.e in
     let M = millionths s.args.mean in
     let r = subst (Solves e M) (sym (result c)) (solved c.before.before) in
-    record { result_value = only_one_solves e M (millionths c.of_millionths.result) (elliptic s.args.e s.requires.e_bound) r; solves = r }
+    record { result_value = only_one_solves e M (millionths c.of_millionths.result) (elliptic s.args.e s.requires) r; solves = r }

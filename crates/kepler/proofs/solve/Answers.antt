@@ -7,17 +7,18 @@ use lib.IntN.{ℤ, pos, nat_abs}
 use Rattle.integers.proofs.Cast.{read, back_ok, cast_fits}
 use Rattle.integers.proofs.Ranges.{inside_of, outside_of, range_size, range_most}
 use Rattle.angles.specs.Unit.{hundred_millionths, millionths, angle_of}
+use Rattle.std.specs.Prelude.{Result, Ok}
+use Rattle.refusals.specs.declared.Refusal.{Refusal}
+use Rattle.angles.specs.declared.Angle.{Angle}
 use Rattle.kepler.specs.Equation.{Elliptic}
 use Rattle.kepler.specs.Eccentric.{eccentric}
 use Rattle.kepler.specs.Answer.{is_elliptic, solved_of, Answers}
-use Rattle.kepler.specs.declared.AnomalyAnswer.{AnomalyAnswer}
-use Rattle.kepler.specs.declared.AnomalyAnswer.TheVariants.{Anomaly}
 use Rattle.kepler.proofs.Demand.{none_refused, refused_otherwise, answers_as_asked}
 use Rattle.kepler.proofs.solve.Goals as goal
 use Rattle.kepler.proofs.solve.Goals.{After-hundred_millionths-count, After-is_from_to, Else-not-is_from_to}
 
 -- both promises from the first
-both : (e M : ℤ) {r : AnomalyAnswer} → r ≡ solved_of e M → (r ≡ solved_of e M) × Answers e M r
+both : (e M : ℤ) {r : Result Angle Refusal} → r ≡ solved_of e M → (r ≡ solved_of e M) × Answers e M r
 both e M x = (x, subst (Answers e M) (sym x) (answers_as_asked e M))
 
 abbrev e : After-hundred_millionths-count → ℤ
@@ -54,8 +55,7 @@ cast_is c = ap nat_abs (count_is c.before.before)
 
 pub eccentric-requires : goal.eccentric-requires
 eccentric-requires c =
-    let s = c.before.before in
-    record { sines_value = s.before.requires; e_bound = subst (λ (n : ℕ). n ≤ 90000000) (sym (cast_is c)) (range_most 0 (e s) (within c)) }
+    let s = c.before.before in subst (λ (n : ℕ). n ≤ 90000000) (sym (cast_is c)) (range_most 0 (e s) (within c))
 
 pub returns : goal.returns
 returns c =
@@ -63,6 +63,6 @@ returns c =
     let s = d.before.before in
     let M = millionths s.before.args.mean in
     let b = both (e s) M
-    (ap (λ (z : ℤ). Anomaly (angle_of z)) (c.eccentric.ensures.result_value ∙ ap (λ (n : ℕ). eccentric (pos n) M) (cast_is d) ∙ ap (λ (z : ℤ). eccentric z M) (range_size 0 (e s) (within d)))
+    (ap (λ (z : ℤ). Ok (angle_of z)) (c.eccentric.ensures.result_value ∙ ap (λ (n : ℕ). eccentric (pos n) M) (cast_is d) ∙ ap (λ (z : ℤ). eccentric z M) (range_size 0 (e s) (within d)))
     ∙ sym (none_refused (e s) M (within d))) in
     record { value = b.0; answers = b.1 }

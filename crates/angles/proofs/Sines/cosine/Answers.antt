@@ -8,8 +8,8 @@ use Rattle.integers.proofs.Cast.{read, back_ok}
 use Rattle.angles.specs.Unit.{one_turn}
 use Rattle.angles.specs.Sine.{half_sine, with_sign_of, sine_of, cosine_of}
 use Rattle.angles.proofs.Turns.{one_turn_within, one_turn_again, one_turn_sum}
-use Rattle.angles.proofs.cosine.Goals as goal
-use Rattle.angles.proofs.cosine.Goals.{After-quarter_on, After-within_turn, Start}
+use Rattle.angles.proofs.Sines.cosine.Goals as goal
+use Rattle.angles.proofs.Sines.cosine.Goals.{After-quarter_on, After-within_turn, Start}
 
 angle_is : (c : Start) → read c.args.angle.0 ≡ c.args.angle.0
 angle_is c = search rules
@@ -28,7 +28,7 @@ on c =
 
 pub turn_sine-requires : goal.turn_sine-requires
 turn_sine-requires c =
-    record { sines_value = c.before.before.before.requires; within = subst (Within 180000000) (sym (on c)) (one_turn_within (c.before.before.before.args.angle.0 +ℤ pos 90000000)) }
+    subst (Within 180000000) (sym (on c)) (one_turn_within (c.before.before.before.args.angle.0 +ℤ pos 90000000))
 
 pub returns : goal.returns
 unfolding cosine_of sine_of

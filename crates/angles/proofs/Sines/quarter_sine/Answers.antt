@@ -8,8 +8,8 @@ use Rattle.angles.specs.Entry.{entry}
 use Rattle.angles.specs.Sine.{quarter_sine}
 use Rattle.angles.proofs.Facts.{Near, neighbours}
 use Rattle.angles.proofs.Steps.{at_most}
-use Rattle.angles.proofs.quarter_sine.Goals as goal
-use Rattle.angles.proofs.quarter_sine.Goals.{After-entry-high}
+use Rattle.angles.proofs.Sines.quarter_sine.Goals as goal
+use Rattle.angles.proofs.Sines.quarter_sine.Goals.{After-entry-high}
 
 -- at 90 degrees nothing is left past the last entry
 last : (t : ℕ) → t ≤ 90000000 → t / 100000 ≡ 900 → entry 900 ≡ quarter_sine t
@@ -20,7 +20,7 @@ last t h e =
     rw (e, er, z) (omega arith)
 
 pub returns-then-k-eq900 : goal.returns-then-k-eq900
-returns-then-k-eq900 c = c.entry.ensures ∙ last c.before.before.args.t c.before.before.requires.t_bound c.before.if-k-eq900.true
+returns-then-k-eq900 c = c.entry.ensures ∙ last c.before.before.args.t c.before.before.requires c.before.if-k-eq900.true
 
 near : (c : After-entry-high) → Near c.before.entry-low.result c.entry-high.result
 near c =

@@ -6,8 +6,8 @@ use native.Mathlib.Omega.{arith}
 use Rattle.angles.specs.Sine.{folded}
 use Rattle.angles.proofs.Facts.{Near, neighbours}
 use Rattle.angles.proofs.Steps.{rise_last, rise_from}
-use Rattle.angles.proofs.rise.Goals as goal
-use Rattle.angles.proofs.rise.Goals.{After-entry-2, After-folded}
+use Rattle.angles.proofs.Sines.rise.Goals as goal
+use Rattle.angles.proofs.Sines.rise.Goals.{After-entry-2, After-folded}
 
 -- the entry before the angle
 entry_is : (c : After-folded) → folded c.before.args.t / 100000 ≡ c.folded.result / 100000

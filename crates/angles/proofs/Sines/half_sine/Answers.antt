@@ -2,7 +2,7 @@
 -- By the definition, whose fold is `folded`'s.
 use mathlib.Core.Path.{ap, ◌∙◌}
 use Rattle.angles.specs.Sine.{quarter_sine, half_sine}
-use Rattle.angles.proofs.half_sine.Goals as goal
+use Rattle.angles.proofs.Sines.half_sine.Goals as goal
 
 pub returns : goal.returns
 unfolding half_sine

@@ -8,8 +8,8 @@ use Rattle.integers.proofs.Cast.{read, back_ok}
 use Rattle.angles.specs.Unit.{one_turn}
 use Rattle.angles.specs.Sine.{half_sine, with_sign_of, sine_of}
 use Rattle.angles.proofs.Turns.{one_turn_within}
-use Rattle.angles.proofs.sine.Goals as goal
-use Rattle.angles.proofs.sine.Goals.{After-within_turn, Start}
+use Rattle.angles.proofs.Sines.sine.Goals as goal
+use Rattle.angles.proofs.Sines.sine.Goals.{After-within_turn, Start}
 
 angle_is : (c : Start) → read c.args.angle.0 ≡ c.args.angle.0
 angle_is c = search rules
@@ -19,7 +19,7 @@ turned c = back_ok c.within_turn.result c.within_turn.type_inv ∙ c.within_turn
 
 pub turn_sine-requires : goal.turn_sine-requires
 turn_sine-requires c =
-    record { sines_value = c.before.before.requires; within = subst (Within 180000000) (sym (turned c)) (one_turn_within c.before.before.args.angle.0) }
+    subst (Within 180000000) (sym (turned c)) (one_turn_within c.before.before.args.angle.0)
 
 pub returns : goal.returns
 unfolding sine_of

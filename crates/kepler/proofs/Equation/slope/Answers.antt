@@ -4,11 +4,11 @@ use Prim.Native.Nat.{◌*◌, ◌≤◌}
 use native.Mathlib.Omega.{arith}
 use native.Mathlib.Nat.{mul-le-mul}
 use Rattle.angles.proofs.Steps.{rise_small}
-use Rattle.kepler.proofs.slope.Goals as goal
-use Rattle.kepler.proofs.slope.Goals.{After-rise}
+use Rattle.kepler.proofs.Equation.slope.Goals as goal
+use Rattle.kepler.proofs.Equation.slope.Goals.{After-rise}
 
-product : (c : After-rise) → c.before.before.args.es * c.rise.result ≤ 51566202 * 1745328
-product c = mul-le-mul {n₂ = 51566202} {m₂ = 1745328} c.before.before.requires.es_bound (rw c.rise.ensures (rise_small c.before.past_half.result))
+product : (c : After-rise) → c.before.before.args.self.now.es * c.rise.result ≤ 51566202 * 1745328
+product c = mul-le-mul {n₂ = 51566202} {m₂ = 1745328} c.before.before.args.self.now.es_bound (rw c.rise.ensures (rise_small c.before.past_half.result))
 
 pub overflow_mul-d : goal.overflow_mul-d
 overflow_mul-d c = omega (arith, product c)

@@ -8,12 +8,12 @@ use Rattle.kepler.specs.Search.{raised}
 use Rattle.kepler.proofs.Rising.{bracket, short, take_low, take_high}
 use Rattle.kepler.proofs.Climb.{raised_step, raised_zero, raised_end}
 use Rattle.kepler.proofs.Grid.{rising}
-use Rattle.kepler.proofs.nearest.Goals as goal
+use Rattle.kepler.proofs.Equation.nearest.Goals as goal
 
 pub loop-hi-init : goal.loop-hi-init
 loop-hi-init c =
-    let z = raised_zero c.args.es in
-    let e = raised_end c.args.es in
+    let z = raised_zero c.args.self.now.es in
+    let e = raised_end c.args.self.now.es in
     omega arith
 
 pub overflow_sub-hi : goal.overflow_sub-hi
@@ -53,7 +53,7 @@ pub loop-hi-preserved : goal.loop-hi-preserved
 loop-hi-preserved c =
     let calls = c.before.before.before.before.before in
     let turn = calls.before.before.before in
-    let l = short (raised turn.before.before.args.es) (calls.before.before.inside-g.result + 1) turn.before.loop-hi.hi turn.before.before.args.target (omega arith) (omega arith) (omega arith) in
+    let l = short (raised turn.before.before.args.self.now.es) (calls.before.before.inside-g.result + 1) turn.before.loop-hi.hi turn.before.before.args.target (omega arith) (omega arith) (omega arith) in
     omega (arith, l)
 
 pub overflow_sub-target : goal.overflow_sub-target
@@ -66,20 +66,20 @@ pub returns-then-target-low : goal.returns-then-target-low
 returns-then-target-low c =
     let at-loop = c.before.before in
     let start = at-loop.before in
-    let es = start.args.es in
+    let es = start.args.self.now.es in
     let k = at-loop.loop-hi.invariant in
     let m : at-loop.loop-hi.hi ≡ at-loop.loop-hi.lo + 1 = omega arith in
-    let s : raised es at-loop.loop-hi.hi < raised es at-loop.loop-hi.lo + 2000000000 = rw m (raised_step es at-loop.loop-hi.lo start.requires.es_bound (omega arith)).less in
+    let s : raised es at-loop.loop-hi.hi < raised es at-loop.loop-hi.lo + 2000000000 = rw m (raised_step es at-loop.loop-hi.lo start.args.self.now.es_bound (omega arith)).less in
     let b = bracket (raised es) 360000000 start.args.target at-loop.loop-hi.lo at-loop.loop-hi.hi at-loop.loop-hi.low at-loop.loop-hi.high k in
-    record { nearest = take_low (raised es) 360000000 (rising es start.requires.es_bound) start.args.target at-loop.loop-hi.lo at-loop.loop-hi.hi b m (omega arith); result_bound = omega arith }
+    record { nearest = take_low (raised es) 360000000 (rising es start.args.self.now.es_bound) start.args.target at-loop.loop-hi.lo at-loop.loop-hi.hi b m (omega arith); result_bound = omega arith }
 
 pub returns-else-target-low : goal.returns-else-target-low
 returns-else-target-low c =
     let at-loop = c.before.before in
     let start = at-loop.before in
-    let es = start.args.es in
+    let es = start.args.self.now.es in
     let k = at-loop.loop-hi.invariant in
     let m : at-loop.loop-hi.hi ≡ at-loop.loop-hi.lo + 1 = omega arith in
-    let s : raised es at-loop.loop-hi.hi < raised es at-loop.loop-hi.lo + 2000000000 = rw m (raised_step es at-loop.loop-hi.lo start.requires.es_bound (omega arith)).less in
+    let s : raised es at-loop.loop-hi.hi < raised es at-loop.loop-hi.lo + 2000000000 = rw m (raised_step es at-loop.loop-hi.lo start.args.self.now.es_bound (omega arith)).less in
     let b = bracket (raised es) 360000000 start.args.target at-loop.loop-hi.lo at-loop.loop-hi.hi at-loop.loop-hi.low at-loop.loop-hi.high k in
-    record { nearest = take_high (raised es) 360000000 (rising es start.requires.es_bound) start.args.target at-loop.loop-hi.lo at-loop.loop-hi.hi b m (omega arith); result_bound = omega arith }
+    record { nearest = take_high (raised es) 360000000 (rising es start.args.self.now.es_bound) start.args.target at-loop.loop-hi.lo at-loop.loop-hi.hi b m (omega arith); result_bound = omega arith }

@@ -10,8 +10,8 @@ use Rattle.integers.specs.Sign.{signed}
 use Rattle.angles.specs.Sine.{half_sine}
 use Rattle.angles.proofs.Steps.{half_top}
 use Rattle.angles.proofs.Laws.{by_sign}
-use Rattle.angles.proofs.turn_sine.Goals as goal
-use Rattle.angles.proofs.turn_sine.Goals.{After-half_sine, After-size, Start}
+use Rattle.angles.proofs.Sines.turn_sine.Goals as goal
+use Rattle.angles.proofs.Sines.turn_sine.Goals.{After-half_sine, After-size, Start}
 
 -- the argument as the machine reads it back
 t_is : (c : Start) → read c.args.t ≡ c.args.t
@@ -21,7 +21,7 @@ sized : (c : After-size) → c.size.result ≡ nat_abs c.before.args.t
 sized c = c.size.ensures ∙ ap nat_abs (t_is c.before)
 
 pub half_sine-requires : goal.half_sine-requires
-half_sine-requires c = record { sines_value = c.before.requires.sines_value; t_bound = subst (λ (n : ℕ). n ≤ 180000000) (sym (sized c)) c.before.requires.within.within }
+half_sine-requires c = subst (λ (n : ℕ). n ≤ 180000000) (sym (sized c)) c.before.requires.within
 
 halved : (c : After-half_sine) → c.half_sine.result ≡ half_sine (nat_abs c.before.before.args.t)
 halved c = c.half_sine.ensures ∙ ap half_sine (sized c.before)

@@ -4,10 +4,10 @@
 use Prim.Native.Nat.{◌-◌}
 use Rattle.kepler.specs.Search.{raised}
 use Rattle.kepler.proofs.Rising.{Kept}
-use Rattle.kepler.proofs.nearest.Given as goal
+use Rattle.kepler.proofs.Equation.nearest.Given as goal
 
 abbrev pub invariant-loop-hi : goal.invariant-loop-hi
-invariant-loop-hi l = Kept (raised l.es) 360000000 l.target l.lo l.hi l.low l.high
+invariant-loop-hi l = Kept (raised l.self.es) 360000000 l.target l.lo l.hi l.low l.high
 
 abbrev pub decreases-loop-hi : goal.decreases-loop-hi
 decreases-loop-hi l = l.hi - l.lo
