@@ -10,9 +10,8 @@ use borrow.Author.Tests.{ne_eqb}
 use lib.Bits.{bit_and, and_mask}
 use lib.Dec.{T, eqb, leb}
 use lib.IntN.{ℤ, pos, negsuc, ◌-ℤ◌, ◌*ℤ◌, neg_ℤ}
-use lib.Ieee.{Float, nan, inf, fin, binary64, up, down, of_fields, of_bits, to_bits, fits, is_nan, ne}
+use lib.Ieee.{Float, nan, inf, fin, binary64, up, down, of_fields, of_bits, to_bits, fits, is_nan}
 use lib.Ieee.Bits.{of_bits-to_bits}
-use lib.Ieee.Compare.{differs_from_itself, nan_differs}
 use lib.Ieee.Exact.{HasValue, odd_sign}
 use lib.Ieee.Fits.{down_pos}
 use lib.Pow.{pow-add, pow_pos, pow_mono, field}
@@ -20,14 +19,13 @@ use Rattle.integers.proofs.Difference.{d_minus, zarith, ext, d_mul, eq_d}
 use Rattle.integers.specs.Sign.{signed}
 use Rattle.dates.specs.Minute.{julian_minute, minute_of_julian}
 use Rattle.dates.specs.Reach.{clamped, held}
-use Rattle.dates.specs.declared.Minute.{Minute}
-use Rattle.dates.specs.declared.Minute.TheVariants.{At, NotFinite}
 use Rattle.integers.specs.Floor.{rounded}
 use Rattle.integers.proofs.Rounding.{signed_times, rounded_same, rounded_less, rounded_small, rounded_above, rounded_below}
+use Rattle.std.specs.Prelude.{None, Option, Some}
 
 -- the minute that is z minutes from JD 0.0
-abbrev pub from_zero : ℤ → Minute
-from_zero z = At (z -ℤ pos 3530224800)
+abbrev pub from_zero : ℤ → Option ℤ
+from_zero z = Some (z -ℤ pos 3530224800)
 
 -- the minute of ±n / k: 2451545 days of 1440 minutes go out of it
 minute_is : (s : Bool) (n k : ℕ) → 0 < k → julian_minute s n k ≡ rounded (signed s (n * 1440)) k -ℤ pos 3530224800
@@ -48,7 +46,7 @@ minute_of_value nan s n k h g = absurd h
 minute_of_value (inf t) s n k h g = absurd h
 minute_of_value (fin t m i) s n k h g =
     let e : m * up i * 1440 * k ≡ n * 1440 * down i = omega (arith, h.1) in
-    ap At (minute_is t (m * up i) (down i) (down_pos i))
+    ap Some (minute_is t (m * up i) (down i) (down_pos i))
     ∙ ap (λ (r : Bool). from_zero (rounded (signed r (m * up i * 1440)) (down i))) h.0
     ∙ ap from_zero (rounded_same s (m * up i * 1440) (n * 1440) (down i) k (down_pos i) g e)
 
@@ -138,31 +136,30 @@ far_is true n k h g =
     let l = rounded_below n k (2 ^ 48) h g in
     clamp_below (z -ℤ pos 3530224800) (omega (zarith, l, d_minus z (pos 3530224800)))
 
-pub far_minute : (s : Bool) (x t : ℕ) → 1070 < x → x < 2047 → held (minute_of_julian (of_fields binary64 s x t)) ≡ At (signed s 100000000000000)
+pub far_minute : (s : Bool) (x t : ℕ) → 1070 < x → x < 2047 → held (minute_of_julian (of_fields binary64 s x t)) ≡ Some (signed s 100000000000000)
 far_minute s x t h l =
     let p : 0 < x = omega arith in
     let e : 1070 ≤ x - 1 = omega arith in
     let u = over (led x t) (2 ^ (x - 1)) (2 ^ 1070) (led_least x t p) (pow_mono e) in
-    ap held (minute_of_fields s x t l) ∙ ap At (far_is s (units x t * 1440) (2 ^ 1074) (pow_pos 1074) u)
+    ap held (minute_of_fields s x t l) ∙ ap Some (far_is s (units x t * 1440) (2 ^ 1074) (pow_pos 1074) u)
 
--- ---- no number: the field of ones, and what differs from itself
-pub no_minute : (s : Bool) (t : ℕ) → minute_of_julian (of_fields binary64 s 2047 t) ≡ NotFinite
+-- ---- no number: the field of ones, and what is not a number
+pub no_minute : (s : Bool) (t : ℕ) → minute_of_julian (of_fields binary64 s 2047 t) ≡ None
 unfolding of_fields minute_of_julian
 no_minute s t = go (eqb t 0)
   where
-    go : (b : Bool) → minute_of_julian (cond b (inf s) nan) ≡ NotFinite
+    go : (b : Bool) → minute_of_julian (cond b (inf s) nan) ≡ None
     go true = refl
     go false = refl
 
-pub nan_minute : (d : Float) → ne d d ≡ true → minute_of_julian d ≡ NotFinite
-unfolding minute_of_julian
-nan_minute d h = ap minute_of_julian (differs_from_itself d (subst T (sym h) tt))
+pub nan_minute : (d : Float) → is_nan d ≡ true → minute_of_julian d ≡ None
+unfolding minute_of_julian is_nan
+nan_minute nan h = refl
+nan_minute (inf s) h = absurd (subst T (sym h) tt)
+nan_minute (fin s m e) h = absurd (subst T (sym h) tt)
 
-pub no_nan : (d : Float) → ne d d ≡ false → T (not (is_nan d))
-unfolding is_nan
-no_nan nan h = absurd (subst T (sym nan_differs ∙ h) tt)
-no_nan (inf s) h = tt
-no_nan (fin s m e) h = tt
+pub no_nan : (d : Float) → is_nan d ≡ false → T (not (is_nan d))
+no_nan d h = subst (λ (b : Bool). T (not b)) (sym h) tt
 
 -- ---- a double by the fields that the code cuts out of its bits
 of_bits_lem : (b : ℕ) → of_bits binary64 b ≡ of_fields binary64 (leb (2 ^ 63) b) (b % 2 ^ 63 / 2 ^ 52) (b % 2 ^ 52)

@@ -15,14 +15,12 @@ use Rattle.integers.proofs.Floor.{floor_mono}
 use Rattle.integers.proofs.Ranges.{of_test, is_inside, is_outside, is_below, is_above, inside_of, range_within}
 use Rattle.integers.proofs.Number.{w_mul, w_floor<}
 use Rattle.refusals.specs.declared.Refusal.{Refusal}
-use Rattle.refusals.specs.declared.Refusal.TheVariants.{NotFinite as DateNotFinite, OutsideInterval}
+use Rattle.refusals.specs.declared.Refusal.TheVariants.{NotFinite, OutsideInterval}
 use Rattle.dates.specs.declared.Interval.{Interval}
-use Rattle.dates.specs.declared.Minute.{Minute}
-use Rattle.dates.specs.declared.Minute.TheVariants.{At, NotFinite}
-use Rattle.dates.specs.declared.Moment.TheVariants.{Accepted, Refused}
 use Rattle.dates.specs.Minute.{drift_of}
 use Rattle.dates.specs.Moment.{Covers, covers, tested_if, tested, moment_at, is_step}
 use Rattle.dates.specs.Reach.{clamped, held, Held, no_minute, near_minute, InReach}
+use Rattle.std.specs.Prelude.{Err, None, Ok, Option, Some}
 
 -- ---- the test of a minute, and what its outcome tells
 module _ (interval : Interval) (m : ℤ) where
@@ -30,74 +28,74 @@ module _ (interval : Interval) (m : ℤ) where
   unfolding tested
   by_test b e = ap (λ (c : Bool). tested_if c m) e
 
-  pub inside : Covers interval m → tested interval m ≡ Accepted m
+  pub inside : Covers interval m → tested interval m ≡ Ok m
   inside h = by_test true (is_inside interval.first interval.last m h)
 
-  pub outside : (Covers interval m → ⊥) → tested interval m ≡ Refused OutsideInterval
+  pub outside : (Covers interval m → ⊥) → tested interval m ≡ Err OutsideInterval
   outside n = by_test false (is_outside interval.first interval.last m n)
 
-  tested_inside : (a : ℤ) → tested interval m ≡ Accepted a → Covers interval a
+  tested_inside : (a : ℤ) → tested interval m ≡ Ok a → Covers interval a
   tested_inside a e = go (covers interval m) refl (sym (by_test (covers interval m) refl) ∙ e)
     where
-      go : (b : Bool) → covers interval m ≡ b → tested_if b m ≡ Accepted a → Covers interval a
+      go : (b : Bool) → covers interval m ≡ b → tested_if b m ≡ Ok a → Covers interval a
       go true f e =
           let g : m ≡ a = cc in
           subst (Covers interval) g (inside_of interval.first interval.last m f)
       go false f e = let z : ◌≡◌ {A = ℕ} 0 1 = cc in absurd (omega arith)
 
-  tested_is : (a : ℤ) → tested interval m ≡ Accepted a → m ≡ a
+  tested_is : (a : ℤ) → tested interval m ≡ Ok a → m ≡ a
   tested_is a e = go (covers interval m) (sym (by_test (covers interval m) refl) ∙ e)
     where
-      go : (b : Bool) → tested_if b m ≡ Accepted a → m ≡ a
+      go : (b : Bool) → tested_if b m ≡ Ok a → m ≡ a
       go true e = cc
       go false e = let z : ◌≡◌ {A = ℕ} 0 1 = cc in absurd (omega arith)
 
-  tested_refused : (r : Refusal) → tested interval m ≡ Refused r → r ≡ OutsideInterval
+  tested_refused : (r : Refusal) → tested interval m ≡ Err r → r ≡ OutsideInterval
   tested_refused r e = go (covers interval m) (sym (by_test (covers interval m) refl) ∙ e)
     where
-      go : (b : Bool) → tested_if b m ≡ Refused r → r ≡ OutsideInterval
+      go : (b : Bool) → tested_if b m ≡ Err r → r ≡ OutsideInterval
       go true e = let z : ◌≡◌ {A = ℕ} 0 1 = cc in absurd (omega arith)
       go false e = cc
 
 -- ---- a minute and an offset: `a` is their sum
-pub record IsSum (minute : Minute) (offset a : ℤ) : Type 0 where
+pub record IsSum (minute : Option ℤ) (offset a : ℤ) : Type 0 where
   pub start : ℤ
-  pub at : minute ≡ At start
+  pub at : minute ≡ Some start
   pub sum : start +ℤ offset ≡ a
 
 module _ (interval : Interval) where
-  pub not_finite : (offset : ℤ) → moment_at interval NotFinite offset ≡ Refused DateNotFinite
+  pub not_finite : (offset : ℤ) → moment_at interval None offset ≡ Err NotFinite
   unfolding moment_at
   not_finite offset = refl
 
-  pub at_sum : (m offset : ℤ) → moment_at interval (At m) offset ≡ tested interval (m +ℤ offset)
+  pub at_sum : (m offset : ℤ) → moment_at interval (Some m) offset ≡ tested interval (m +ℤ offset)
   unfolding moment_at
   at_sum m offset = refl
 
   -- the offset goes into the minute
-  pub sum_first : (m offset : ℤ) → moment_at interval (At m) offset ≡ moment_at interval (At (m +ℤ offset)) (pos 0)
+  pub sum_first : (m offset : ℤ) → moment_at interval (Some m) offset ≡ moment_at interval (Some (m +ℤ offset)) (pos 0)
   sum_first m offset = at_sum m offset ∙ ap (tested interval) (sym (+ℤ_idr (m +ℤ offset))) ∙ sym (at_sum (m +ℤ offset) (pos 0))
 
   -- a minute that is accepted lies in the interval
-  pub accepted_inside : (minute : Minute) (offset a : ℤ) → moment_at interval minute offset ≡ Accepted a → Covers interval a
-  accepted_inside NotFinite offset a h =
+  pub accepted_inside : (minute : Option ℤ) (offset a : ℤ) → moment_at interval minute offset ≡ Ok a → Covers interval a
+  accepted_inside None offset a h =
       let e = sym (not_finite offset) ∙ h in
       let z : ◌≡◌ {A = ℕ} 0 1 = cc in
       absurd (omega arith)
-  accepted_inside (At m) offset a h = tested_inside interval (m +ℤ offset) a (sym (at_sum m offset) ∙ h)
+  accepted_inside (Some m) offset a h = tested_inside interval (m +ℤ offset) a (sym (at_sum m offset) ∙ h)
 
   -- and is the sum of a minute that there is and the offset
-  pub accepted_is : (minute : Minute) (offset a : ℤ) → moment_at interval minute offset ≡ Accepted a → IsSum minute offset a
-  accepted_is NotFinite offset a h =
+  pub accepted_is : (minute : Option ℤ) (offset a : ℤ) → moment_at interval minute offset ≡ Ok a → IsSum minute offset a
+  accepted_is None offset a h =
       let e = sym (not_finite offset) ∙ h in
       let z : ◌≡◌ {A = ℕ} 0 1 = cc in
       absurd (omega arith)
-  accepted_is (At m) offset a h = record { start = m; at = refl; sum = tested_is interval (m +ℤ offset) a (sym (at_sum m offset) ∙ h) }
+  accepted_is (Some m) offset a h = record { start = m; at = refl; sum = tested_is interval (m +ℤ offset) a (sym (at_sum m offset) ∙ h) }
 
   -- there is no refusal but 1 and 2
-  pub one_or_two : (minute : Minute) (offset : ℤ) (r : Refusal) → moment_at interval minute offset ≡ Refused r → (r ≡ DateNotFinite) ⊎ (r ≡ OutsideInterval)
-  one_or_two NotFinite offset r h = let e = sym (not_finite offset) ∙ h in inl cc
-  one_or_two (At m) offset r h = inr (tested_refused interval (m +ℤ offset) r (sym (at_sum m offset) ∙ h))
+  pub one_or_two : (minute : Option ℤ) (offset : ℤ) (r : Refusal) → moment_at interval minute offset ≡ Err r → (r ≡ NotFinite) ⊎ (r ≡ OutsideInterval)
+  one_or_two None offset r h = let e = sym (not_finite offset) ∙ h in inl cc
+  one_or_two (Some m) offset r h = inr (tested_refused interval (m +ℤ offset) r (sym (at_sum m offset) ∙ h))
 
 -- ---- a step between dates
 pub step_small : (step : ℤ) → T (is_step step) → Within 1000000 step
@@ -117,22 +115,22 @@ clamp_within z = go (lt_z z (negsuc 99999999999999)) (lt_z (pos 100000000000000)
         by (pos n) e f = record { within = omega zarith }
         by (negsuc n) e f = record { within = omega zarith }
 
-pub held_is : (minute : Minute) → Held (held minute)
-held_is NotFinite = no_minute
-held_is (At m) = near_minute (clamp_within m)
+pub held_is : (minute : Option ℤ) → Held (held minute)
+held_is None = no_minute
+held_is (Some m) = near_minute (clamp_within m)
 
 -- no interval in reach tells it from the exact one
-pub held_enough : (interval : Interval) (minute : Minute) (offset : ℤ) → InReach interval offset → moment_at interval (held minute) offset ≡ moment_at interval minute offset
-held_enough interval NotFinite offset r = refl
-held_enough interval (At m) offset r =
+pub held_enough : (interval : Interval) (minute : Option ℤ) (offset : ℤ) → InReach interval offset → moment_at interval (held minute) offset ≡ moment_at interval minute offset
+held_enough interval None offset r = refl
+held_enough interval (Some m) offset r =
     at_sum interval (clamped m) offset ∙ go (lt_z m (negsuc 99999999999999)) (lt_z (pos 100000000000000) m) refl refl ∙ sym (at_sum interval m offset)
   where
-    low : (z : ℤ) → z ≤ℤ negsuc 99999999999999 → tested interval (z +ℤ offset) ≡ Refused OutsideInterval
+    low : (z : ℤ) → z ≤ℤ negsuc 99999999999999 → tested interval (z +ℤ offset) ≡ Err OutsideInterval
     low z h =
         let l : (z +ℤ offset) <ℤ interval.first = omega (zarith, h, d_add z offset, d_abs offset, d_abs interval.first, r.first_near.within, r.offset_near.within) in
         by_test interval (z +ℤ offset) false (is_below interval.first interval.last (z +ℤ offset) l)
 
-    high : (z : ℤ) → pos 100000000000000 ≤ℤ z → tested interval (z +ℤ offset) ≡ Refused OutsideInterval
+    high : (z : ℤ) → pos 100000000000000 ≤ℤ z → tested interval (z +ℤ offset) ≡ Err OutsideInterval
     high z h =
         let l : interval.last <ℤ (z +ℤ offset) = omega (zarith, h, d_add z offset, d_abs offset, d_abs interval.last, r.last_near.within, r.offset_near.within) in
         by_test interval (z +ℤ offset) false (is_above interval.first interval.last (z +ℤ offset) l)

@@ -1,24 +1,22 @@
 -- Terms of inner contracts: what the code carries of a minute, and what the functions of `dates` ask of their arguments.
-use Rattle.std.specs.Prelude.{cond, ℕ, ◌^◌, ◌≤◌, ◌<◌, ℤ, pos, negsuc}
+use Rattle.std.specs.Prelude.{cond, ℕ, ◌^◌, ◌≤◌, ◌<◌, ℤ, pos, negsuc, None, Option, Some}
 use Rattle.std.specs.Int.Signed.{lt_z}
 use Rattle.integers.specs.Range.{Within}
 use Rattle.dates.specs.declared.Interval.{Interval}
-use Rattle.dates.specs.declared.Minute.{Minute}
-use Rattle.dates.specs.declared.Minute.TheVariants.{At, NotFinite}
 
 -- a number beyond 10^14 either way, put on that end
 abbrev pub clamped : ℤ → ℤ
 clamped z = cond (lt_z z (negsuc 99999999999999)) (negsuc 99999999999999) (cond (lt_z (pos 100000000000000) z) (pos 100000000000000) z)
 
 -- a minute as the code carries it: no interval reaches as far as 10^14 minutes, so that no test tells the difference (`held_enough`)
-abbrev pub held : Minute → Minute
-held NotFinite = NotFinite
-held (At m) = At (clamped m)
+abbrev pub held : Option ℤ → Option ℤ
+held None = None
+held (Some m) = Some (clamped m)
 
 -- such a minute
-pub data Held : Minute → Type 0 where
-  no_minute : Held NotFinite
-  near_minute : {m : ℤ} → Within 100000000000000 m → Held (At m)
+pub data Held : Option ℤ → Type 0 where
+  no_minute : Held None
+  near_minute : {m : ℤ} → Within 100000000000000 m → Held (Some m)
 
 -- an interval and an offset: none beyond 10^13
 pub record InReach (interval : Interval) (offset : ℤ) : Type 0 where

@@ -3,7 +3,7 @@
 // a refusal can stand between them.
 #![tactic(auto)]
 
-ghost use Rattle.std.specs.Prelude.{◌≡◌, ◌^◌};
+ghost use Rattle.std.specs.Prelude.{◌≡◌, ◌^◌, Some};
 ghost use Rattle.std.specs.Float.{binary64};
 ghost use Rattle.std.specs.Float.Ieee.{of_fields};
 ghost use Rattle.integers.specs.Floor.{rounded};
@@ -14,31 +14,17 @@ ghost use Rattle.dates.specs.Reach.{clamped, held, Held, InReach, NearFields, Ro
 use refusals::Refusal;
 
 // A date is given either as a Julian date, a double, or as whole minutes from JD 2451545.0.
-#[derive(Clone, Copy)]
+#[derive(Clone, Copy, Debug)]
 pub enum Date {
     Julian(f64),
     Minutes(i64),
 }
 
-// The minute of a date, which a Julian date that is not finite lacks.
-#[derive(Clone, Copy)]
-pub enum Minute {
-    At(i64),
-    NotFinite,
-}
-
 // The minutes from the first to the last, both accepted.
-#[derive(Clone, Copy)]
+#[derive(Clone, Copy, Debug, PartialEq, Eq)]
 pub struct Interval {
     pub first: i64,
     pub last: i64,
-}
-
-// The minute of a date that is accepted, or the refusal of one that is not: number 1 or 2.
-#[derive(Clone, Copy)]
-pub enum Moment {
-    Accepted(i64),
-    Refused(Refusal),
 }
 
 // JD 2451545.0 in minutes: 2,451,545 days of 1,440.
@@ -60,7 +46,7 @@ fn rounded(a: i64, v: u64) -> i64
 // 2^-12 days, where the leading 2^52 may be missing, it is less than half a minute from JD 0.0.
 fn minute_of_fields(negative: bool, x: u64, t: u64) -> i64
     requires { NearFields x t }
-    ensures { minute_of_julian (of_fields binary64 negative x t) ≡ Minute.At result }
+    ensures { minute_of_julian (of_fields binary64 negative x t) ≡ Some result }
 {
     if x < 1011 {
         return 0 - EPOCH;
@@ -73,59 +59,54 @@ fn minute_of_fields(negative: bool, x: u64, t: u64) -> i64
 fn clamped(m: i64) -> i64
     ensures { result ≡ clamped m }
 {
-    if m < 0 - FAR {
-        return 0 - FAR;
-    }
-    if FAR < m {
-        return FAR;
-    }
-    m
+    m.clamp(-FAR, FAR)
 }
 
 // The minute of a Julian date, by its bits: the sign, 11 bits of exponent and 52 of digits. One of 2^48 days or more is far.
-fn minute_of_julian(d: f64) -> Minute
+fn minute_of_julian(d: f64) -> Option<i64>
     ensures { result ≡ held (minute_of_julian d) }
 {
-    if d != d {
-        return Minute::NotFinite; // not a number, of which the bits are not known
+    if d.is_nan() {
+        return None; // its bits are not known
     }
-    let b = f64::to_bits(d);
+    let b = d.to_bits();
     let x = (b >> 52) & 0x7ff;
     let t = b & 0xf_ffff_ffff_ffff;
     if x == 0x7ff {
-        return Minute::NotFinite; // an infinity
+        return None; // an infinity
     }
     let negative = 0x8000_0000_0000_0000 <= b;
     if 1070 < x {
-        return Minute::At(integers::with_sign(negative, 100_000_000_000_000));
+        return Some(integers::with_sign(negative, 100_000_000_000_000));
     }
-    Minute::At(clamped(minute_of_fields(negative, x, t)))
+    Some(clamped(minute_of_fields(negative, x, t)))
 }
 
 // The minute of a date of either form.
-pub fn minute_of(date: Date) -> Minute
+// Only a Julian date that is not finite has none.
+pub fn minute_of(date: Date) -> Option<i64>
     ensures { result ≡ held (minute_of date) }
 {
     match date {
         Date::Julian(d) => minute_of_julian(d),
-        Date::Minutes(m) => Minute::At(clamped(m)),
+        Date::Minutes(m) => Some(clamped(m)),
     }
 }
 
 // A minute and an offset, tested against an interval: refusal 1, then 2.
-pub fn moment_at(interval: Interval, minute: Minute, offset: i64) -> Moment
+pub fn moment_at(interval: Interval, minute: Option<i64>, offset: i64) -> Result<i64, Refusal>
     requires in_reach { InReach interval offset }
     requires held { Held minute }
     ensures { result ≡ moment_at interval minute offset }
 {
-    let Minute::At(start) = minute else {
-        return Moment::Refused(Refusal::NotFinite);
+    let Some(start) = minute else {
+        return Err(Refusal::NotFinite);
     };
     let m = start + offset;
     if !integers::is_from_to(interval.first, interval.last, m) {
-        return Moment::Refused(Refusal::OutsideInterval);
+        return Err(Refusal::OutsideInterval);
     }
-    Moment::Accepted(m)
+    Ok(m)
 }
 
 // Whether dates may follow each other by this many minutes, in a sheet or a search: refusal 10's test of a step.

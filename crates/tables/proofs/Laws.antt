@@ -17,16 +17,14 @@ use Rattle.integers.proofs.Cast.{read, back, same_bits, pos_fits}
 use Rattle.integers.proofs.Number.{known, w_lit, w_more}
 use Rattle.integers.proofs.Ranges.{is_inside, is_outside, inside_of, outside_of, range_within}
 use Rattle.refusals.specs.declared.Refusal.{Refusal}
-use Rattle.refusals.specs.declared.Refusal.TheVariants.{NotFinite as DateNotFinite, OutsideInterval, NoSuchTable}
+use Rattle.refusals.specs.declared.Refusal.TheVariants.{NotFinite, OutsideInterval, NoSuchTable}
 use Rattle.dates.specs.declared.Date.{Date}
 use Rattle.dates.specs.declared.Date.TheVariants.{Minutes}
-use Rattle.dates.specs.declared.Minute.{Minute}
-use Rattle.dates.specs.declared.Minute.TheVariants.{At, NotFinite}
-use Rattle.dates.specs.declared.Moment.TheVariants.{Accepted, Refused}
 use Rattle.dates.specs.Minute.{minute_of}
 use Rattle.dates.specs.Moment.{tested}
 use Rattle.dates.proofs.Laws.{IsSum, not_finite, at_sum, sum_first, accepted_inside, accepted_is, one_or_two}
 use Rattle.tables.specs.Table.{KnownTable, Body, is_table, interval_if, interval_of, OnTable, moment_if, moment_after}
+use Rattle.std.specs.Prelude.{Err, None, Ok, Option, Some}
 
 -- ---- no end of an interval is beyond 50 centuries
 module _ (table : ℤ) where
@@ -48,60 +46,60 @@ module _ (table : ℤ) where
 
 -- ---- the moment of a date and an offset by a table
 module _ (date : Date) (table offset : ℤ) where
-  pub after_inside : (m : ℤ) → moment_after date table offset ≡ Accepted m → OnTable table m
+  pub after_inside : (m : ℤ) → moment_after date table offset ≡ Ok m → OnTable table m
   unfolding moment_after
   after_inside m h = go (is_table table) (minute_of date) refl h
     where
-      go : (b : Bool) (minute : Minute) → is_table table ≡ b → moment_if b (interval_of table) minute offset ≡ Accepted m → OnTable table m
+      go : (b : Bool) (minute : Option ℤ) → is_table table ≡ b → moment_if b (interval_of table) minute offset ≡ Ok m → OnTable table m
       go true minute e f = record { known = inside_of (pos 1) (pos 2) table e; covered = accepted_inside (interval_of table) minute offset m f }
-      go false NotFinite e f = let z : ◌≡◌ {A = ℕ} 0 1 = cc in absurd (omega arith)
-      go false (At n) e f = let z : ◌≡◌ {A = ℕ} 0 1 = cc in absurd (omega arith)
+      go false None e f = let z : ◌≡◌ {A = ℕ} 0 1 = cc in absurd (omega arith)
+      go false (Some n) e f = let z : ◌≡◌ {A = ℕ} 0 1 = cc in absurd (omega arith)
 
   -- it is the sum of the date's minute and the offset
-  pub after_is : (m : ℤ) → moment_after date table offset ≡ Accepted m → IsSum (minute_of date) offset m
+  pub after_is : (m : ℤ) → moment_after date table offset ≡ Ok m → IsSum (minute_of date) offset m
   unfolding moment_after
   after_is m h = go (is_table table) (minute_of date) h
     where
-      go : (b : Bool) (minute : Minute) → moment_if b (interval_of table) minute offset ≡ Accepted m → IsSum minute offset m
+      go : (b : Bool) (minute : Option ℤ) → moment_if b (interval_of table) minute offset ≡ Ok m → IsSum minute offset m
       go true minute f = accepted_is (interval_of table) minute offset m f
-      go false NotFinite f = let z : ◌≡◌ {A = ℕ} 0 1 = cc in absurd (omega arith)
-      go false (At n) f = let z : ◌≡◌ {A = ℕ} 0 1 = cc in absurd (omega arith)
+      go false None f = let z : ◌≡◌ {A = ℕ} 0 1 = cc in absurd (omega arith)
+      go false (Some n) f = let z : ◌≡◌ {A = ℕ} 0 1 = cc in absurd (omega arith)
 
   -- there is no refusal but 1, 2 and 11, and 11 only where there is no such table
-  pub after_refused : (r : Refusal) → moment_after date table offset ≡ Refused r → ((r ≡ DateNotFinite) ⊎ (r ≡ OutsideInterval)) ⊎ ((r ≡ NoSuchTable) × (KnownTable table → ⊥))
+  pub after_refused : (r : Refusal) → moment_after date table offset ≡ Err r → ((r ≡ NotFinite) ⊎ (r ≡ OutsideInterval)) ⊎ ((r ≡ NoSuchTable) × (KnownTable table → ⊥))
   unfolding moment_after
   after_refused r h = go (is_table table) (minute_of date) refl h
     where
-      go : (b : Bool) (minute : Minute) → is_table table ≡ b → moment_if b (interval_of table) minute offset ≡ Refused r → ((r ≡ DateNotFinite) ⊎ (r ≡ OutsideInterval)) ⊎ ((r ≡ NoSuchTable) × (KnownTable table → ⊥))
+      go : (b : Bool) (minute : Option ℤ) → is_table table ≡ b → moment_if b (interval_of table) minute offset ≡ Err r → ((r ≡ NotFinite) ⊎ (r ≡ OutsideInterval)) ⊎ ((r ≡ NoSuchTable) × (KnownTable table → ⊥))
       go true minute e f = inl (one_or_two (interval_of table) minute offset r f)
-      go false NotFinite e f = inl (inl cc)
-      go false (At n) e f = inr (cc, outside_of (pos 1) (pos 2) table e)
+      go false None e f = inl (inl cc)
+      go false (Some n) e f = inr (cc, outside_of (pos 1) (pos 2) table e)
 
   -- and there always: "11, no such table, after 1 and before 2"
-  pub after_eleven : (m : ℤ) → minute_of date ≡ At m → (KnownTable table → ⊥) → moment_after date table offset ≡ Refused NoSuchTable
+  pub after_eleven : (m : ℤ) → minute_of date ≡ Some m → (KnownTable table → ⊥) → moment_after date table offset ≡ Err NoSuchTable
   unfolding moment_after
   after_eleven m e n = λ i. moment_if (is_outside (pos 1) (pos 2) table n i) (interval_of table) (e i) offset
 
   -- a table that there is tests the sum
-  pub after_tested : (m : ℤ) → minute_of date ≡ At m → KnownTable table → moment_after date table offset ≡ tested (interval_of table) (m +ℤ offset)
+  pub after_tested : (m : ℤ) → minute_of date ≡ Some m → KnownTable table → moment_after date table offset ≡ tested (interval_of table) (m +ℤ offset)
   unfolding moment_after
   after_tested m e h = (λ i. moment_if (is_inside (pos 1) (pos 2) table h i) (interval_of table) (e i) offset) ∙ at_sum (interval_of table) m offset
 
   -- "sums taken exactly": a date of minute m and an offset is the date of their sum
-  pub after_minute : (m : ℤ) → minute_of date ≡ At m → moment_after date table offset ≡ moment_after (Minutes (m +ℤ offset)) table (pos 0)
+  pub after_minute : (m : ℤ) → minute_of date ≡ Some m → moment_after date table offset ≡ moment_after (Minutes (m +ℤ offset)) table (pos 0)
   unfolding moment_after
-  after_minute m e = ap (λ (x : Minute). moment_if (is_table table) (interval_of table) x offset) e ∙ go (is_table table)
+  after_minute m e = ap (λ (x : Option ℤ). moment_if (is_table table) (interval_of table) x offset) e ∙ go (is_table table)
     where
-      go : (b : Bool) → moment_if b (interval_of table) (At m) offset ≡ moment_if b (interval_of table) (At (m +ℤ offset)) (pos 0)
+      go : (b : Bool) → moment_if b (interval_of table) (Some m) offset ≡ moment_if b (interval_of table) (Some (m +ℤ offset)) (pos 0)
       go true = sum_first (interval_of table) m offset
       go false = refl
 
   -- "with a start that is not finite every row has status 1"
-  pub after_not_finite : minute_of date ≡ NotFinite → moment_after date table offset ≡ Refused DateNotFinite
+  pub after_not_finite : minute_of date ≡ None → moment_after date table offset ≡ Err NotFinite
   unfolding moment_after
-  after_not_finite e = ap (λ (x : Minute). moment_if (is_table table) (interval_of table) x offset) e ∙ go (is_table table)
+  after_not_finite e = ap (λ (x : Option ℤ). moment_if (is_table table) (interval_of table) x offset) e ∙ go (is_table table)
     where
-      go : (b : Bool) → moment_if b (interval_of table) NotFinite offset ≡ Refused DateNotFinite
+      go : (b : Bool) → moment_if b (interval_of table) None offset ≡ Err NotFinite
       go true = not_finite (interval_of table) offset
       go false = refl
 

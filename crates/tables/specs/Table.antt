@@ -1,17 +1,14 @@
 -- Document 002's tables, exact in hundred-millionths (01, "Counts used"; 02, Item 1): a, e, I, L, the longitude of perihelion and the
 -- node at minute 0, then their rates a century. Bodies 1 to 9 are a table's rows in order; body 3 is the Earth-Moon barycentre.
-use Rattle.std.specs.Prelude.{Bool, true, false, List, [], ◌∷◌, ℕ, ◌-◌, ℤ, pos, negsuc, neg_ℤ, nat_abs, get_or}
+use Rattle.std.specs.Prelude.{Bool, true, false, List, [], ◌∷◌, ℕ, ◌-◌, ℤ, pos, negsuc, neg_ℤ, nat_abs, get_or, Err, None, Option, Result, Some}
 use Rattle.integers.specs.Range.{FromTo, is_from_to}
 use Rattle.integers.specs.Sign.{same}
-use Rattle.refusals.specs.declared.Refusal.TheVariants.{NotFinite as DateNotFinite, NoSuchTable}
+use Rattle.refusals.specs.declared.Refusal.TheVariants.{NotFinite, NoSuchTable}
 use Rattle.dates.specs.declared.Date.{Date}
 use Rattle.dates.specs.declared.Interval.{Interval}
-use Rattle.dates.specs.declared.Minute.{Minute}
-use Rattle.dates.specs.declared.Minute.TheVariants.{At, NotFinite}
-use Rattle.dates.specs.declared.Moment.{Moment}
-use Rattle.dates.specs.declared.Moment.TheVariants.{Refused}
 use Rattle.dates.specs.Minute.{minute_of}
 use Rattle.dates.specs.Moment.{Covers, moment_at}
+use Rattle.refusals.specs.declared.Refusal.{Refusal}
 
 abbrev pub neg : ℕ → ℤ
 neg n = neg_ℤ (pos n)
@@ -164,11 +161,11 @@ pub record OnTable (table minute : ℤ) : Type 0 where
   pub covered : Covers (interval_of table) minute
 
 -- 02, Item 1: "11, no such table, after 1 and before 2"; "2 now speaks of the named table's interval"
-abbrev pub moment_if : (is_table : Bool) → Interval → Minute → ℤ → Moment
+abbrev pub moment_if : (is_table : Bool) → Interval → Option ℤ → ℤ → Result ℤ Refusal
 moment_if true interval minute offset = moment_at interval minute offset
-moment_if false interval NotFinite offset = Refused DateNotFinite
-moment_if false interval (At m) offset = Refused NoSuchTable
+moment_if false interval None offset = Err NotFinite
+moment_if false interval (Some m) offset = Err NoSuchTable
 
 -- a date and an offset in minutes, tested against the interval of a table
-unfoldable pub moment_after : Date → (table : ℤ) → (offset : ℤ) → Moment
+unfoldable pub moment_after : Date → (table : ℤ) → (offset : ℤ) → Result ℤ Refusal
 moment_after date table offset = moment_if (is_table table) (interval_of table) (minute_of date) offset

@@ -7,7 +7,7 @@ ghost use Rattle.integers.specs.Range.{Within};
 ghost use Rattle.tables.specs.Table.{Body, is_table, is_body, table_row, table_terms, interval_of, moment_after};
 ghost use Rattle.tables.specs.Line.{line_of};
 
-use dates::{Date, Interval, Minute, Moment};
+use dates::{Date, Interval};
 use refusals::Refusal;
 
 mod table1;
@@ -112,7 +112,7 @@ pub fn interval_of(table: i64) -> Interval
 }
 
 // The moment of a date and an offset in minutes by a table: refusal 1, then 11, then 2.
-pub fn moment_after(date: Date, table: i64, offset: i64) -> Moment
+pub fn moment_after(date: Date, table: i64, offset: i64) -> Result<i64, Refusal>
     requires { Within 10000000000000 offset }
     ensures { result ≡ moment_after date table offset }
 {
@@ -121,7 +121,7 @@ pub fn moment_after(date: Date, table: i64, offset: i64) -> Moment
         return dates::moment_at(interval_of(table), minute, offset);
     }
     match minute {
-        Minute::NotFinite => Moment::Refused(Refusal::NotFinite),
-        Minute::At(_) => Moment::Refused(Refusal::NoSuchTable),
+        None => Err(Refusal::NotFinite),
+        Some(_) => Err(Refusal::NoSuchTable),
     }
 }

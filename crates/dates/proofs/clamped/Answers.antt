@@ -1,26 +1,26 @@
 -- `clamped` puts a number beyond 10^14 either way on that end.
--- The tests of the code are the definition's, of the number read back.
-use mathlib.Core.Path.{◌≡◌, sym, ◌∙◌}
-use lib.IntN.{pos, negsuc}
+-- The library's clamp takes the smaller first and then the larger; by the two tests, of the number read back.
+use mathlib.Core.Bool.{Bool, false, true}
+use mathlib.Core.Path.{◌≡◌, refl, ap, ◌∙◌}
+use lib.IntN.{ℤ, pos, negsuc}
 use lib.Signed.{lt_z}
-use Rattle.integers.proofs.Cast.{read, back}
+use Rattle.std.specs.Int.{int_max, int_min}
+use Rattle.integers.proofs.Cast.{read, back, back_ok}
+use Rattle.integers.proofs.Difference.{zarith}
+use Rattle.dates.specs.Reach.{clamped}
 use Rattle.dates.proofs.clamped.Goals as goal
-use Rattle.dates.proofs.clamped.Goals.{Start}
 
-module _ (s : Start) where
-  lower : lt_z s.args.m (negsuc 99999999999999) ≡ lt_z (read s.args.m) (negsuc 99999999999999)
-  lower i = lt_z (sym (back s.args.m s.ranges.m) i) (negsuc 99999999999999)
-
-  upper : lt_z (pos 100000000000000) s.args.m ≡ lt_z (pos 100000000000000) (read s.args.m)
-  upper i = lt_z (pos 100000000000000) (sym (back s.args.m s.ranges.m) i)
-
-pub returns-then-m : goal.returns-then-m
-returns-then-m c = sym (rw (lower c.before ∙ c.if-m.true))
-
-pub returns-then-m-gt-FAR : goal.returns-then-m-gt-FAR
-returns-then-m-gt-FAR c = let s = c.before.before in sym (rw (lower s ∙ c.before.if-m.false, upper s ∙ c.if-m-gt-FAR.true))
+clamp_is : (z : ℤ) → int_max (negsuc 99999999999999) (int_min z (pos 100000000000000)) ≡ clamped z
+clamp_is z = go (lt_z (pos 100000000000000) z) (lt_z z (negsuc 99999999999999)) refl refl
+  where
+    go : (above below : Bool) → lt_z (pos 100000000000000) z ≡ above → lt_z z (negsuc 99999999999999) ≡ below → int_max (negsuc 99999999999999) (int_min z (pos 100000000000000)) ≡ clamped z
+    go true true e f = absurd (omega zarith)
+    go true false e f = rw (e, f) refl
+    go false true e f = rw (e, f) refl
+    go false false e f = rw (e, f) refl
 
 pub returns : goal.returns
-returns c =
-    let s = c.before.before in
-    back s.args.m s.ranges.m ∙ sym (rw (lower s ∙ c.before.if-m.false, upper s ∙ c.if-m-gt-FAR.false))
+returns c = back_ok c.clamp.result c.clamp.type_inv ∙ c.clamp.ensures.value ∙ clamp_is (read c.args.m) ∙ ap clamped (back c.args.m c.ranges.m)
+
+pub clamp-requires : goal.clamp-requires
+clamp-requires c = omega zarith

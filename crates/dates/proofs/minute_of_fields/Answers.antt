@@ -12,10 +12,10 @@ use Rattle.integers.proofs.Number.{Num, got, lit, sub, sub_fits, w_neg, w_mul, w
 use Rattle.dates.specs.Reach.{RoundFits}
 use Rattle.integers.specs.Sign.{signed}
 use Rattle.integers.specs.Floor.{rounded}
-use Rattle.dates.specs.declared.Minute.TheVariants.{At}
 use Rattle.dates.proofs.Fields.{near_minute, small_minute}
 use Rattle.dates.proofs.minute_of_fields.Goals as goal
 use Rattle.dates.proofs.minute_of_fields.Goals.{After-rounded, After-with_sign, Start}
+use Rattle.std.specs.Prelude.{Some}
 
 -- ---- the numbers on the way, with their bounds
 signed_within : (s : Bool) {n m : ℕ} → n ≤ m → Within m (signed s n)
@@ -62,4 +62,4 @@ pub returns : goal.returns
 returns c =
     let s = c.before.before.before in
     near_minute s.args.negative s.args.x s.args.t c.before.before.if-x-lt1011.false s.requires.near
-    ∙ ap At (sym (sub (rounded_is c) (lit (pos 3530224800)) tt).is)
+    ∙ ap Some (sym (sub (rounded_is c) (lit (pos 3530224800)) tt).is)

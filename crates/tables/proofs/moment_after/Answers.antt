@@ -8,11 +8,8 @@ use lib.IntN.{ℤ}
 use Rattle.integers.specs.Range.{Within}
 use Rattle.integers.proofs.Cast.{read, back}
 use Rattle.integers.proofs.Number.{known, w_read, w_more}
-use Rattle.refusals.specs.declared.Refusal.TheVariants.{NotFinite as DateNotFinite, NoSuchTable}
+use Rattle.refusals.specs.declared.Refusal.TheVariants.{NotFinite, NoSuchTable}
 use Rattle.dates.specs.declared.Interval.{Interval}
-use Rattle.dates.specs.declared.Minute.{Minute}
-use Rattle.dates.specs.declared.Minute.TheVariants.{At, NotFinite}
-use Rattle.dates.specs.declared.Moment.TheVariants.{Refused}
 use Rattle.dates.specs.Minute.{minute_of}
 use Rattle.dates.specs.Moment.{moment_at}
 use Rattle.dates.specs.Reach.{held, Held, InReach}
@@ -21,6 +18,7 @@ use Rattle.tables.specs.Table.{is_table, interval_of, moment_if, moment_after}
 use Rattle.tables.proofs.Laws.{first_near, last_near}
 use Rattle.tables.proofs.moment_after.Goals as goal
 use Rattle.tables.proofs.moment_after.Goals.{After-interval_of, After-is_table, Else-is_table}
+use Rattle.std.specs.Prelude.{Err, None, Option, Some}
 
 in_reach : (table : ℤ) {offset : ℤ} → Within 10000000000000 offset → InReach (interval_of table) offset
 in_reach table w = record { first_near = w_more (first_near table) tt; last_near = w_more (last_near table) tt; offset_near = w }
@@ -50,13 +48,13 @@ returns-then-is_table c =
     ∙ sym (ap (λ (b : Bool). moment_if b (interval_of s.args.table) (minute_of s.args.date) s.args.offset) (test t ∙ i.before.if-is_table.true))
 
 -- no table: the refusal goes by whether there is a minute
-none : (minute : Minute) (interval : Interval) (offset : ℤ) → held minute ≡ NotFinite → Refused DateNotFinite ≡ moment_if false interval minute offset
-none NotFinite interval offset e = refl
-none (At m) interval offset e = let z : ◌≡◌ {A = ℕ} 0 1 = cc in absurd (omega arith)
+none : (minute : Option ℤ) (interval : Interval) (offset : ℤ) → held minute ≡ None → Err NotFinite ≡ moment_if false interval minute offset
+none None interval offset e = refl
+none (Some m) interval offset e = let z : ◌≡◌ {A = ℕ} 0 1 = cc in absurd (omega arith)
 
-some : (minute : Minute) (interval : Interval) (offset m : ℤ) → held minute ≡ At m → Refused NoSuchTable ≡ moment_if false interval minute offset
-some NotFinite interval offset m e = let z : ◌≡◌ {A = ℕ} 0 1 = cc in absurd (omega arith)
-some (At n) interval offset m e = refl
+some : (minute : Option ℤ) (interval : Interval) (offset m : ℤ) → held minute ≡ Some m → Err NoSuchTable ≡ moment_if false interval minute offset
+some None interval offset m e = let z : ◌≡◌ {A = ℕ} 0 1 = cc in absurd (omega arith)
+some (Some n) interval offset m e = refl
 
 module _ (e : Else-is_table) where
   by_none : moment_if false (interval_of e.args.table) (minute_of e.args.date) e.args.offset ≡ moment_after e.args.date e.args.table e.args.offset
@@ -65,12 +63,12 @@ module _ (e : Else-is_table) where
       let t = e.before in
       sym (ap (λ (b : Bool). moment_if b (interval_of e.args.table) (minute_of e.args.date) e.args.offset) (test t ∙ e.if-is_table.false))
 
-pub returns-in-NotFinite : goal.returns-in-NotFinite
-returns-in-NotFinite c =
-    none (minute_of c.args.date) (interval_of c.args.table) c.args.offset (sym c.minute_of-minute.ensures ∙ c.in-NotFinite.is)
-    ∙ by_none (goal.at.returns-in-NotFinite c).Else-is_table
+pub returns-in-None : goal.returns-in-None
+returns-in-None c =
+    none (minute_of c.args.date) (interval_of c.args.table) c.args.offset (sym c.minute_of-minute.ensures ∙ c.in-None.is)
+    ∙ by_none (goal.at.returns-in-None c).Else-is_table
 
-pub returns-in-At : goal.returns-in-At
-returns-in-At c =
-    some (minute_of c.args.date) (interval_of c.args.table) c.args.offset _ (sym c.minute_of-minute.ensures ∙ c.in-At.is)
-    ∙ by_none (goal.at.returns-in-At c).Else-is_table
+pub returns-in-Some : goal.returns-in-Some
+returns-in-Some c =
+    some (minute_of c.args.date) (interval_of c.args.table) c.args.offset _ (sym c.minute_of-minute.ensures ∙ c.in-Some.is)
+    ∙ by_none (goal.at.returns-in-Some c).Else-is_table
