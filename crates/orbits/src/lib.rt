@@ -7,20 +7,18 @@ ghost use Rattle.std.specs.Prelude.{◌≡◌, ◌≤◌, pos, ◌+ℤ◌, ◌-�
 ghost use Rattle.integers.specs.Range.{Within};
 ghost use Rattle.integers.specs.Floor.{floor_div, unit_product, end_turn};
 ghost use Rattle.angles.specs.Unit.{millionths, hundred_millionths};
-ghost use Rattle.angles.specs.Sines.{sine_entries};
 ghost use Rattle.tables.specs.Table.{Body, table_row, table_terms, OnTable};
 ghost use Rattle.orbits.specs.Elements.{element_in, elements_at, square_term, periodic_terms, extra_of, mean_anomaly_of, mean_at, argument_of};
 ghost use Rattle.orbits.specs.Place.{minor_of, in_plane, coefficients_by, coefficients_of, ecliptic_of, place_of, place_at};
 ghost use Rattle.orbits.specs.Range.{RowFits, TermsFit, AxisFits, ElementsFit, Bounded};
 ghost use Rattle.orbits.specs.Answer.{body_moment, elements_answer, mean_answer};
 
-use angles::{Angle, Element};
-use dates::{Date, Moment};
-use kepler::AnomalyAnswer;
+use angles::{Angle, Element, Sines};
+use dates::Date;
 use refusals::Refusal;
 
 // The six elements of an orbit: semi-major axis in au, eccentricity, and four angles in degrees, each in hundred-millionths.
-#[derive(Clone, Copy)]
+#[derive(Clone, Copy, Debug, PartialEq, Eq)]
 pub struct Elements {
     pub a: Element,
     pub e: Element,
@@ -31,14 +29,14 @@ pub struct Elements {
 }
 
 // A place in the plane of the orbit, the x-axis toward the perihelion, in counts of 10^-7 au.
-#[derive(Clone, Copy)]
+#[derive(Clone, Copy, Debug, PartialEq, Eq)]
 pub struct InPlane {
     pub x: i64,
     pub y: i64,
 }
 
 // The six coefficients of (8-34), two for each coordinate.
-#[derive(Clone, Copy)]
+#[derive(Clone, Copy, Debug, PartialEq, Eq)]
 pub struct Coefficients {
     pub px: i64,
     pub qx: i64,
@@ -46,12 +44,6 @@ pub struct Coefficients {
     pub qy: i64,
     pub pz: i64,
     pub qz: i64,
-}
-
-#[derive(Clone, Copy)]
-pub enum ElementsAnswer {
-    Found(Elements),
-    Refused(Refusal),
 }
 
 // Step 1 for element k of a row: its number stands at k, its rate six further.
@@ -90,8 +82,7 @@ fn square_term(b: i64, minute: i64) -> i64
 }
 
 // The terms in cos(fT) and sin(fT) of M. They are skipped where both numbers before them are 0.
-fn periodic_terms(sines: &[u32; 901], c: i64, s: i64, f: i64, minute: i64) -> i64
-    requires sines_value { sines.now ≡ sine_entries }
+fn periodic_terms(sines: &Sines, c: i64, s: i64, f: i64, minute: i64) -> i64
     requires within { Within 5000000000 c × Within 5000000000 s }
     requires within_2 { Within 5000000000 f × Within 2630000000 minute }
     ensures { result ≡ periodic_terms c s f minute }
@@ -100,14 +91,12 @@ fn periodic_terms(sines: &[u32; 901], c: i64, s: i64, f: i64, minute: i64) -> i6
         return 0;
     }
     let phase = Element::of_hundred_millionths(dates::drift(f, minute)).to_angle();
-    integers::unit_product(c, angles::cosine(sines, phase))
-        + integers::unit_product(s, angles::sine(sines, phase))
+    integers::unit_product(c, sines.cosine(phase)) + integers::unit_product(s, sines.sine(phase))
 }
 
 // What the numbers b, c, s and f add to M, in element counts.
-fn extra_of(sines: &[u32; 901], terms: [i64; 4], minute: i64) -> Element
-    requires sines_value { sines.now ≡ sine_entries }
-    requires terms_fit { TermsFit terms minute }
+fn extra_of(sines: &Sines, terms: [i64; 4], minute: i64) -> Element
+    requires { TermsFit terms minute }
     ensures { hundred_millionths result ≡ extra_of terms minute }
 {
     let square = square_term(terms[0], minute);
@@ -121,9 +110,7 @@ pub fn mean_anomaly_of(elements: Elements, extra: Element) -> Angle
     requires within { Within 1000000000000000000 (hundred_millionths extra) }
     ensures { millionths result ≡ mean_anomaly_of elements (hundred_millionths extra) }
 {
-    let longitude = elements.longitude;
-    let perihelion = elements.perihelion;
-    let plain = longitude.difference(perihelion);
+    let plain = elements.longitude.difference(elements.perihelion);
     plain.sum(extra).to_angle().one_turn()
 }
 
@@ -132,9 +119,7 @@ fn argument_of(elements: Elements) -> Angle
     requires { ElementsFit elements }
     ensures { millionths result ≡ argument_of elements }
 {
-    let perihelion = elements.perihelion;
-    let node = elements.node;
-    perihelion.difference(node).to_angle()
+    elements.perihelion.difference(elements.node).to_angle()
 }
 
 // Step 4: the minor half-axis of an ellipse of half-axis 1.
@@ -165,15 +150,14 @@ fn plane_y(a: i64, f: i64, sine: i64) -> i64
 }
 
 // Step 4.
-fn in_plane(sines: &[u32; 901], a: i64, e: u64, anomaly: Angle) -> InPlane
-    requires sines_value { sines.now ≡ sine_entries }
-    requires axis_fits { AxisFits a (pos e) }
+fn in_plane(sines: &Sines, a: i64, e: u64, anomaly: Angle) -> InPlane
+    requires { AxisFits a (pos e) }
     ensures { result ≡ in_plane a (pos e) (millionths anomaly) }
 {
     let f = minor_axis(e);
     InPlane {
-        x: plane_x(a, e as i64, angles::cosine(sines, anomaly)),
-        y: plane_y(a, f, angles::sine(sines, anomaly)),
+        x: plane_x(a, e as i64, sines.cosine(anomaly)),
+        y: plane_y(a, f, sines.sine(anomaly)),
     }
 }
 
@@ -217,22 +201,16 @@ fn coefficients_by(sw: i64, cw: i64, sn: i64, cn: i64, si: i64, ci: i64) -> Coef
     }
 }
 
-fn coefficients_of(
-    sines: &[u32; 901],
-    argument: Angle,
-    node: Angle,
-    inclination: Angle,
-) -> Coefficients
-    requires { sines.now ≡ sine_entries }
+fn coefficients_of(sines: &Sines, argument: Angle, node: Angle, inclination: Angle) -> Coefficients
     ensures { result ≡ coefficients_of (millionths argument) (millionths node) (millionths inclination) }
 {
     coefficients_by(
-        angles::sine(sines, argument),
-        angles::cosine(sines, argument),
-        angles::sine(sines, node),
-        angles::cosine(sines, node),
-        angles::sine(sines, inclination),
-        angles::cosine(sines, inclination),
+        sines.sine(argument),
+        sines.cosine(argument),
+        sines.sine(node),
+        sines.cosine(node),
+        sines.sine(inclination),
+        sines.cosine(inclination),
     )
 }
 
@@ -259,23 +237,18 @@ fn ecliptic(k: Coefficients, x: i64, y: i64) -> [i64; 3]
 }
 
 // Steps 3 to 5: the place in HAE of J2000 by the elements and the mean anomaly.
-pub fn place_of(sines: &[u32; 901], elements: Elements, mean: Angle) -> [i64; 3]
-    requires sines_value { sines.now ≡ sine_entries }
-    requires elements_fit { ElementsFit elements }
+pub fn place_of(sines: &Sines, elements: Elements, mean: Angle) -> [i64; 3]
+    requires { ElementsFit elements }
     ensures { result ≡ place_of elements (millionths mean) }
 {
-    let a = elements.a;
-    let e = elements.e;
-    let node = elements.node;
-    let inclination = elements.inclination;
-    let size = e.hundred_millionths() as u64;
+    let size = elements.e.hundred_millionths() as u64;
     let anomaly = kepler::eccentric(sines, size, mean);
-    let p = in_plane(sines, a.hundred_millionths(), size, anomaly);
+    let p = in_plane(sines, elements.a.hundred_millionths(), size, anomaly);
     let k = coefficients_of(
         sines,
         argument_of(elements),
-        node.to_angle(),
-        inclination.to_angle(),
+        elements.node.to_angle(),
+        elements.inclination.to_angle(),
     );
     ecliptic(k, p.x, p.y)
 }
@@ -290,8 +263,7 @@ pub fn elements_of(table: i64, body: i64, minute: i64) -> Elements
 }
 
 // What a table adds to the mean anomaly of a body on a minute of its interval. Table 1 adds nothing.
-fn extra_at(sines: &[u32; 901], table: i64, body: i64, minute: i64) -> Element
-    requires sines_value { sines.now ≡ sine_entries }
+fn extra_at(sines: &Sines, table: i64, body: i64, minute: i64) -> Element
     requires body { Body body }
     requires on_table { OnTable table minute }
     ensures { hundred_millionths result ≡ extra_of (table_terms table body) minute }
@@ -311,8 +283,7 @@ fn extra_alone(table: i64, body: i64, minute: i64) -> Element
     if table == 1 {
         return Element::of_hundred_millionths(0);
     }
-    let sines = angles::sines();
-    extra_of(&sines, tables::terms_of(table, body), minute)
+    extra_at(&Sines::new(), table, body, minute)
 }
 
 // The mean anomaly of a body on a minute of a table's interval.
@@ -326,8 +297,7 @@ fn mean_at(table: i64, body: i64, minute: i64) -> Angle
 }
 
 // The place in HAE of J2000 of a body on a minute of a table's interval.
-pub fn place_at(sines: &[u32; 901], table: i64, body: i64, minute: i64) -> [i64; 3]
-    requires sines_value { sines.now ≡ sine_entries }
+pub fn place_at(sines: &Sines, table: i64, body: i64, minute: i64) -> [i64; 3]
     requires body { Body body }
     requires on_table { OnTable table minute }
     ensures { result ≡ place_at (table_row table body) (table_terms table body) minute }
@@ -337,36 +307,28 @@ pub fn place_at(sines: &[u32; 901], table: i64, body: i64, minute: i64) -> [i64;
     place_of(sines, elements, mean_anomaly_of(elements, extra))
 }
 
-// The moment of a date for a body: refusals 1, 11, 2 and 3 in order.
-fn body_moment(date: Date, table: i64, body: i64) -> Moment
+// The minute of a date for a body, or refusal 1, 11, 2 or 3, in this order.
+fn body_moment(date: Date, table: i64, body: i64) -> Result<i64, Refusal>
     ensures { result ≡ body_moment date table body }
 {
-    let moment = tables::moment_after(date, table, 0);
-    if tables::is_body(body) {
-        return moment;
+    let minute = tables::moment_after(date, table, 0)?;
+    if !tables::is_body(body) {
+        return Err(Refusal::NoSuchBody);
     }
-    match moment {
-        Moment::Accepted(_) => Moment::Refused(Refusal::NoSuchBody),
-        Moment::Refused(refusal) => Moment::Refused(refusal),
-    }
+    Ok(minute)
 }
 
 // The six elements of a body on a date.
-pub fn elements_on_date(date: Date, table: i64, body: i64) -> ElementsAnswer
+pub fn elements_on_date(date: Date, table: i64, body: i64) -> Result<Elements, Refusal>
     ensures { result ≡ elements_answer date table body }
 {
-    match body_moment(date, table, body) {
-        Moment::Accepted(minute) => ElementsAnswer::Found(elements_of(table, body, minute)),
-        Moment::Refused(refusal) => ElementsAnswer::Refused(refusal),
-    }
+    Ok(elements_of(table, body, body_moment(date, table, body)?))
 }
 
 // The mean anomaly of a body on a date, in one turn.
-pub fn mean_anomaly(date: Date, table: i64, body: i64) -> AnomalyAnswer
+pub fn mean_anomaly(date: Date, table: i64, body: i64) -> Result<Angle, Refusal>
     ensures { result ≡ mean_answer date table body }
 {
-    match body_moment(date, table, body) {
-        Moment::Accepted(minute) => AnomalyAnswer::Anomaly(mean_at(table, body, minute)),
-        Moment::Refused(refusal) => AnomalyAnswer::Refused(refusal),
-    }
+    let minute = body_moment(date, table, body)?;
+    Ok(mean_at(table, body, minute))
 }

@@ -1,32 +1,50 @@
 -- `body_moment` is the moment of a date for a body: refusals 1, 11, 2 and 3 in order.
--- The test of the code is the definition's; of a body that there is not, by the two cases of the date's moment.
-use mathlib.Core.Bool.{Bool, false}
-use mathlib.Core.Path.{◌≡◌, sym, ap, ◌∙◌}
-use lib.IntN.{pos}
-use Rattle.integers.proofs.Cast.{back}
-use Rattle.dates.specs.declared.Moment.{Moment}
+-- By the two cases of the date's moment, and then by the test of the body, which is the definition's.
+use mathlib.Core.Bool.{Bool, true, false}
+use mathlib.Core.Path.{◌≡◌, refl, sym, ap, ◌∙◌}
+use lib.IntN.{ℤ, pos}
+use Rattle.std.specs.Prelude.{Result, Ok, Err}
+use Rattle.integers.proofs.Cast.{read, back}
+use Rattle.refusals.specs.declared.Refusal.{Refusal}
+use Rattle.refusals.proofs.Handed.{handed_on}
 use Rattle.tables.specs.Table.{is_body, moment_after}
+use Rattle.tables.proofs.Laws.{after_inside, covered_read}
 use Rattle.orbits.specs.Answer.{body_if, body_moment}
 use Rattle.orbits.proofs.body_moment.Goals as goal
-use Rattle.orbits.proofs.body_moment.Goals.{After-is_body, Else-is_body}
+use Rattle.orbits.proofs.body_moment.Goals.{After-is_body, In_err-minute, In_ok-minute, Start}
 
--- the definition by the outcome of the code's test, and the moment that the code has
-by : (c : After-is_body) → body_if c.is_body.result c.before.moment_after-moment.result ≡ body_moment c.before.before.args.date c.before.before.args.table c.before.before.args.body
+-- the definition by the moment and by the test's outcome
+by : (c : Start) {o : Result ℤ Refusal} {b : Bool} → o ≡ moment_after c.args.date c.args.table (pos 0) → is_body c.args.body ≡ b → body_if b o ≡ body_moment c.args.date c.args.table c.args.body
 unfolding body_moment
-by c =
+by c m t i = body_if (sym t i) (m i)
+
+refused : (b : Bool) (r : Refusal) → Err r ≡ body_if b (Err r)
+refused true r = refl
+refused false r = refl
+
+pub returns-in_err-minute : goal.returns-in_err-minute
+returns-in_err-minute c =
+    handed_on c.from_residual.ensures.1
+    ∙ refused (is_body c.args.body) c.in_err-minute.field-0.0
+    ∙ by (goal.at.returns-in_err-minute c).Start (c.in_err-minute.ensures ∙ (λ i. moment_after c.args.date (back c.args.table c.ranges.table i) (pos 0))) refl
+
+-- the moment of the date is that of this arm, and its minute lies in the interval of the table
+module _ (c : In_ok-minute) where
+  told : Ok c.in_ok-minute.minute ≡ moment_after c.args.date c.args.table (pos 0)
+  told = c.in_ok-minute.ensures ∙ (λ i. moment_after c.args.date (back c.args.table c.ranges.table i) (pos 0))
+
+  minute_is : read c.in_ok-minute.minute ≡ c.in_ok-minute.minute
+  minute_is = covered_read (after_inside c.args.date c.args.table (pos 0) c.in_ok-minute.minute (sym told))
+
+-- past the date's refusals, by the test of the body
+tested : (c : After-is_body) {b : Bool} → c.is_body.result ≡ b → body_if b (Ok c.before.in_ok-minute.minute) ≡ body_moment c.before.before.before.before.args.date c.before.before.before.before.args.table c.before.before.before.before.args.body
+tested c e =
     let m = c.before in
-    let s = m.before in
-    λ i. body_if ((c.is_body.ensures ∙ ap is_body (back s.args.body s.ranges.body)) i) ((m.moment_after-moment.ensures ∙ (λ j. moment_after s.args.date (back s.args.table s.ranges.table j) (pos 0))) i)
+    let s = m.before.before.before in
+    by s (told m) (sym (c.is_body.ensures ∙ ap is_body (back s.args.body s.ranges.body)) ∙ e)
 
-pub returns-then-is_body : goal.returns-then-is_body
-returns-then-is_body c = let t = c.before in sym (ap (λ (b : Bool). body_if b t.before.moment_after-moment.result) c.if-is_body.true) ∙ by t
+pub returns-then-not-is_body : goal.returns-then-not-is_body
+returns-then-not-is_body c = tested c.before c.if-not-is_body.true
 
--- no body: the moment is that of this arm
-none : (e : Else-is_body) {o : Moment} → e.moment_after-moment.result ≡ o → body_if false o ≡ body_moment e.args.date e.args.table e.args.body
-none e f = (λ i. body_if (sym e.if-is_body.false i) (sym f i)) ∙ by e.before
-
-pub returns-in-Accepted : goal.returns-in-Accepted
-returns-in-Accepted c = none (goal.at.returns-in-Accepted c).Else-is_body c.in-Accepted.is
-
-pub returns-in-Refused : goal.returns-in-Refused
-returns-in-Refused c = none (goal.at.returns-in-Refused c).Else-is_body c.in-Refused.is
+pub returns : goal.returns
+returns c = ap Ok (minute_is c.before.before) ∙ tested c.before c.if-not-is_body.false

@@ -23,7 +23,7 @@ terms_are c =
 pub extra_of-requires : goal.extra_of-requires
 extra_of-requires c =
     let s = c.before.before in
-    record { sines_value = s.requires.sines_value; terms_fit = subst₂ TermsFit (sym (terms_are c)) (sym (back s.args.minute s.ranges.minute)) (table_terms_fit s.args.table s.args.body s.args.minute s.requires.body s.requires.on_table) }
+    subst₂ TermsFit (sym (terms_are c)) (sym (back s.args.minute s.ranges.minute)) (table_terms_fit s.args.table s.args.body s.args.minute s.requires.body s.requires.on_table)
 
 pub returns : goal.returns
 returns c =

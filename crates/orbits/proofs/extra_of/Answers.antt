@@ -14,7 +14,7 @@ start c = c.before.before
 
 square : (c : After-square_term-square) → Num (read c.square_term-square.result) (square_term (at (start c).args.terms 0) (start c).args.minute) 14000000000000
 square c =
-    let h = (start c).requires.terms_fit in
+    let h = (start c).requires in
     got c.square_term-square.type_inv (c.square_term-square.ensures ∙ (λ i. square_term ((known (h.each 0) tt).is i) ((known h.minute tt).is i))) (square_small h)
 
 abbrev from : After-periodic_terms-periodic → After-square_term-square
@@ -22,19 +22,19 @@ from c = c.before.before.before.before
 
 periodic : (c : After-periodic_terms-periodic) → Num (read c.periodic_terms-periodic.result) (periodic_terms (at (start (from c)).args.terms 1) (at (start (from c)).args.terms 2) (at (start (from c)).args.terms 3) (start (from c)).args.minute) 10000000000
 periodic c =
-    let h = (start (from c)).requires.terms_fit in
+    let h = (start (from c)).requires in
     got c.periodic_terms-periodic.type_inv
     (c.periodic_terms-periodic.ensures ∙ (λ i. periodic_terms ((known (h.each 1) tt).is i) ((known (h.each 2) tt).is i) ((known (h.each 3) tt).is i) ((known h.minute tt).is i)))
     (periodic_small h)
 
 pub square_term-square-requires : goal.square_term-square-requires
-square_term-square-requires c = let h = c.before.requires.terms_fit in (w_read (h.each 0) tt, w_read h.minute tt)
+square_term-square-requires c = let h = c.before.requires in (w_read (h.each 0) tt, w_read h.minute tt)
 
 pub periodic_terms-periodic-requires : goal.periodic_terms-periodic-requires
 periodic_terms-periodic-requires c =
     let s = c.before.before.before.before.before in
-    let h = s.requires.terms_fit in
-    record { sines_value = s.requires.sines_value; within = (w_read (h.each 1) tt, w_read (h.each 2) tt); within_2 = (w_read (h.each 3) tt, w_read h.minute tt) }
+    let h = s.requires in
+    record { within = (w_read (h.each 1) tt, w_read (h.each 2) tt); within_2 = (w_read (h.each 3) tt, w_read h.minute tt) }
 
 pub overflow_add-square : goal.overflow_add-square
 overflow_add-square c = add_fits (square (from c)) (periodic c) tt

@@ -22,7 +22,7 @@ use Rattle.orbits.proofs.in_plane.Goals.{After-cosine, After-minor_axis-f, After
 
 module _ (s : Start) where
   small : s.args.e ≤ 90000000
-  small = range_most 0 (pos s.args.e) s.requires.axis_fits.elliptic
+  small = range_most 0 (pos s.args.e) s.requires.elliptic
 
   a_is : read s.args.a ≡ s.args.a
   a_is = back s.args.a s.ranges.a
@@ -45,7 +45,7 @@ cosine_is c = back_ok c.cosine.result c.cosine.type_inv ∙ c.cosine.ensures
 pub plane_x-requires : goal.plane_x-requires
 plane_x-requires c =
     let s = c.before.before in
-    record { axis_fits = subst₂ AxisFits (sym (a_is s)) (sym (e_is s)) s.requires.axis_fits; within = subst (Within 1000000000) (sym (cosine_is c)) (cosine_small (millionths s.args.anomaly)) }
+    record { axis_fits = subst₂ AxisFits (sym (a_is s)) (sym (e_is s)) s.requires; within = subst (Within 1000000000) (sym (cosine_is c)) (cosine_small (millionths s.args.anomaly)) }
 
 sine_is : (c : After-sine) → read c.sine.result ≡ sine_of (millionths c.before.before.before.before.args.anomaly)
 sine_is c = back_ok c.sine.result c.sine.type_inv ∙ c.sine.ensures
@@ -53,7 +53,7 @@ sine_is c = back_ok c.sine.result c.sine.type_inv ∙ c.sine.ensures
 pub plane_y-requires : goal.plane_y-requires
 plane_y-requires c =
     let s = c.before.before.before.before in
-    let axis : Within 4500000000 s.args.a = record { within = s.requires.axis_fits.axis } in record { within = subst (Within 4500000000) (sym (a_is s)) axis; within_2 = subst (Within 1000000000) (sym (minor_is c.before.before.before)) (minor_small (pos s.args.e) s.requires.axis_fits.elliptic); within_3 = subst (Within 1000000000) (sym (sine_is c)) (sine_small (millionths s.args.anomaly)) }
+    let axis : Within 4500000000 s.args.a = record { within = s.requires.axis } in record { within = subst (Within 4500000000) (sym (a_is s)) axis; within_2 = subst (Within 1000000000) (sym (minor_is c.before.before.before)) (minor_small (pos s.args.e) s.requires.elliptic); within_3 = subst (Within 1000000000) (sym (sine_is c)) (sine_small (millionths s.args.anomaly)) }
 
 abbrev two : ℤ → ℤ → InPlane
 two x y = record { x = x; y = y }

@@ -34,7 +34,7 @@ mean_anomaly_of-requires c =
     record { elements_fit = fit c.before; within = subst (Within 1000000000000000000) (sym (extra_is c)) (extra_within (table_terms_fit s.args.table s.args.body s.args.minute s.requires.body s.requires.on_table)) }
 
 pub place_of-requires : goal.place_of-requires
-place_of-requires c = let e = c.before.before in record { sines_value = e.before.requires.sines_value; elements_fit = fit e }
+place_of-requires c = let e = c.before.before in fit e
 
 pub returns : goal.returns
 returns c =

@@ -34,10 +34,10 @@ module _ (s : Start) where
   E = eccentric e (millionths s.args.mean)
 
   fit : AxisFits a e
-  fit = s.requires.elements_fit.axis
+  fit = s.requires.axis
 
 abbrev start : After-hundred_millionths-size → Start
-start c = c.before.before.before.before.before
+start c = c.before.before
 
 e_is : (c : After-hundred_millionths-size) → read c.hundred_millionths-size.result ≡ e (start c)
 e_is c = back_ok c.hundred_millionths-size.result c.hundred_millionths-size.type_inv ∙ c.hundred_millionths-size.ensures
@@ -52,25 +52,25 @@ pub overflow_cast-size : goal.overflow_cast-size
 overflow_cast-size c = cast_fits (e_is c) (fit (start c)).elliptic.low (let h = range_most 0 (e (start c)) (fit (start c)).elliptic in omega arith)
 
 pub eccentric-anomaly-requires : goal.eccentric-anomaly-requires
-eccentric-anomaly-requires c = record { sines_value = (start c).requires.sines_value; e_bound = size_small c }
+eccentric-anomaly-requires c = size_small c
 
 anomaly_is : (c : After-eccentric-anomaly) → millionths c.eccentric-anomaly.result ≡ E (start c.before)
 anomaly_is c = c.eccentric-anomaly.ensures.result_value ∙ (λ i. eccentric (size_is c.before i) (millionths (start c.before).args.mean))
 
 abbrev first : After-hundred_millionths → After-hundred_millionths-size
-first c = c.before.before
+first c = c.before.before.before
 
 a_is : (c : After-hundred_millionths) → read c.hundred_millionths.result ≡ a (start (first c))
 a_is c = back_ok c.hundred_millionths.result c.hundred_millionths.type_inv ∙ c.hundred_millionths.ensures
 
 pub in_plane-p-requires : goal.in_plane-p-requires
 in_plane-p-requires c =
-    record { sines_value = (start (first c)).requires.sines_value; axis_fits = subst₂ AxisFits (sym (a_is c)) (sym (size_is (first c))) (fit (start (first c))) }
+    subst₂ AxisFits (sym (a_is c)) (sym (size_is (first c))) (fit (start (first c)))
 
 plane_is : (c : After-in_plane-p) → c.in_plane-p.result ≡ in_plane (a (start (first c.before))) (e (start (first c.before))) (E (start (first c.before)))
 plane_is c =
     c.in_plane-p.ensures
-    ∙ (λ i. in_plane (a_is c.before i) (size_is (first c.before) i) (anomaly_is c.before.before i))
+    ∙ (λ i. in_plane (a_is c.before i) (size_is (first c.before) i) (anomaly_is c.before.before.before i))
 
 module _ (c : After-in_plane-p) where
   abbrev s : Start
@@ -83,18 +83,15 @@ module _ (c : After-in_plane-p) where
   y_small = subst (λ (p : InPlane). Within 450000000 p.y) (sym (plane_is c)) (plane_y_small (a s) (e s) (E s) (fit s))
 
 pub argument_of-requires : goal.argument_of-requires
-argument_of-requires c = (s c).requires.elements_fit
-
-pub coefficients_of-k-requires : goal.coefficients_of-k-requires
-coefficients_of-k-requires c = (s c.before.before.before).requires.sines_value
+argument_of-requires c = (s c).requires
 
 abbrev plane : After-coefficients_of-k → After-in_plane-p
-plane c = c.before.before.before.before
+plane c = c.before.before.before.before.before.before
 
 coefficients_are : (c : After-coefficients_of-k) → c.coefficients_of-k.result ≡ coefficients_of (argument_of (el (s (plane c)))) (node_of (el (s (plane c)))) (inclination_of (el (s (plane c))))
 coefficients_are c =
     c.coefficients_of-k.ensures
-    ∙ (λ i. coefficients_of (c.before.before.before.argument_of.ensures i) (c.before.before.to_angle.ensures i) (c.before.to_angle-2.ensures i))
+    ∙ (λ i. coefficients_of (c.before.before.before.before.before.argument_of.ensures i) (c.before.before.before.to_angle.ensures i) (c.before.to_angle-2.ensures i))
 
 pub ecliptic-requires : goal.ecliptic-requires
 ecliptic-requires c =
