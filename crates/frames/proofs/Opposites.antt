@@ -9,8 +9,9 @@ use Rattle.integers.specs.Triple.{at}
 use Rattle.integers.proofs.Ranges.{range_opposite}
 use Rattle.vectors.specs.Vector.{applied, way_of, opposite_of}
 use Rattle.vectors.proofs.Opposites.{applied_opposite}
-use Rattle.frames.specs.declared.Turned.{Turned}
-use Rattle.frames.specs.declared.Turned.TheVariants.{Vector, Refused}
+use Rattle.std.specs.Prelude.{Result, Ok, Err}
+use Rattle.refusals.specs.declared.Refusal.{Refusal}
+use Rattle.frames.specs.declared.Coordinates.{Coordinates}
 use Rattle.frames.specs.Frame.{rotation_of, hae_turned, turned_between}
 use Rattle.frames.specs.Answer.{in_limits, turned_status, turned_vector, opposite_coordinates, opposite_turned}
 use Rattle.frames.specs.Rtn.{rtn_rows, has_direction, answer_if, rtn_turned, to_rtn, from_rtn}
@@ -59,10 +60,10 @@ unfolding from_rtn
 from_rtn_opposite r v = rtn_opposite true r v
 
 -- ---- what a caller sees of the opposite answer: the same status, and opposite coordinates, zeros where it is refused
-pub opposite_status : (t : Turned) → turned_status (opposite_turned t) ≡ turned_status t
-opposite_status (Vector p) = refl
-opposite_status (Refused r) = refl
+pub opposite_status : (t : Result Coordinates Refusal) → turned_status (opposite_turned t) ≡ turned_status t
+opposite_status (Ok p) = refl
+opposite_status (Err r) = refl
 
-pub opposite_vector : (t : Turned) → turned_vector (opposite_turned t) ≡ opposite_coordinates (turned_vector t)
-opposite_vector (Vector p) = refl
-opposite_vector (Refused r) = refl
+pub opposite_vector : (t : Result Coordinates Refusal) → turned_vector (opposite_turned t) ≡ opposite_coordinates (turned_vector t)
+opposite_vector (Ok p) = refl
+opposite_vector (Err r) = refl

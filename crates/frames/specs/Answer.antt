@@ -1,11 +1,10 @@
 -- What is given and what is answered: how far a given vector or place may reach, and a turned vector or its refusal.
-use Rattle.std.specs.Prelude.{Bool, ◌&&◌, List, ℤ, pos, negsuc, neg_ℤ}
+use Rattle.std.specs.Prelude.{Bool, ◌&&◌, List, ℤ, pos, negsuc, neg_ℤ, Result, Ok, Err}
 use Rattle.integers.specs.Range.{is_from_to}
 use Rattle.integers.specs.Triple.{at, zeros}
 use Rattle.refusals.specs.Number.{number_of}
 use Rattle.frames.specs.declared.Coordinates.{Coordinates}
-use Rattle.frames.specs.declared.Turned.{Turned}
-use Rattle.frames.specs.declared.Turned.TheVariants.{Vector, Refused}
+use Rattle.refusals.specs.declared.Refusal.{Refusal}
 
 -- refusal 5: "a part of a given vector or place beyond ±500,000,000"
 abbrev pub part_in_limits : ℤ → Bool
@@ -18,18 +17,18 @@ abbrev pub as_coordinates : List ℤ → Coordinates
 as_coordinates v = record { x = at v 0; y = at v 1; z = at v 2 }
 
 -- document 01's number of an answer, 0 where there is a vector, and the vector, zeros where there is none
-abbrev pub turned_status : Turned → ℤ
-turned_status (Vector v) = pos 0
-turned_status (Refused r) = number_of r
+abbrev pub turned_status : Result Coordinates Refusal → ℤ
+turned_status (Ok v) = pos 0
+turned_status (Err r) = number_of r
 
-abbrev pub turned_vector : Turned → Coordinates
-turned_vector (Vector v) = v
-turned_vector (Refused r) = as_coordinates zeros
+abbrev pub turned_vector : Result Coordinates Refusal → Coordinates
+turned_vector (Ok v) = v
+turned_vector (Err r) = as_coordinates zeros
 
 -- "opposite vectors give opposite results" (02, Item 4): the opposite coordinates, and the answer that has them; a refusal stays as it is
 abbrev pub opposite_coordinates : Coordinates → Coordinates
 opposite_coordinates p = record { x = neg_ℤ p.x; y = neg_ℤ p.y; z = neg_ℤ p.z }
 
-abbrev pub opposite_turned : Turned → Turned
-opposite_turned (Vector p) = Vector (opposite_coordinates p)
-opposite_turned (Refused r) = Refused r
+abbrev pub opposite_turned : Result Coordinates Refusal → Result Coordinates Refusal
+opposite_turned (Ok p) = Ok (opposite_coordinates p)
+opposite_turned (Err r) = Err r

@@ -1,6 +1,6 @@
 -- Document 01, "Checked examples": those of RTN and of refusal 5 that have no star (the starred ones stand in `places`), and that GEI
 -- goes by the obliquity that decides and not by the printed one; and what 02, Item 4 changed. By computation on the definitions.
-use Rattle.std.specs.Prelude.{◌≡◌, refl, List, [], ◌∷◌, ℤ, pos, negsuc}
+use Rattle.std.specs.Prelude.{◌≡◌, refl, List, [], ◌∷◌, ℤ, pos, negsuc, Ok, Err}
 use Rattle.integers.specs.Triple.{at, zeros}
 use Rattle.integers.specs.Floor.{end_turn}
 use Rattle.integers.specs.Root.{root_from, root_of}
@@ -8,7 +8,6 @@ use Rattle.angles.specs.Unit.{one_turn}
 use Rattle.angles.specs.Entry.{factorial, part, whole, term, plus_terms, minus_terms, entry}
 use Rattle.angles.specs.Sine.{quarter_sine, half_sine, sine_of, cosine_of}
 use Rattle.refusals.specs.declared.Refusal.TheVariants.{TooFar, NoDirection}
-use Rattle.frames.specs.declared.Turned.TheVariants.{Vector, Refused}
 use Rattle.vectors.specs.Vector.{row_at, applied, length_of, unit_of, cross_of}
 use Rattle.frames.specs.Frame.{gei_rows, hci_rows, solar_axis, rotation_of, hae_turned, turned_between}
 use Rattle.frames.specs.Answer.{as_coordinates, turned_status}
@@ -18,11 +17,11 @@ use Rattle.frames.specs.Rtn.{rtn_rows, rtn_turned, to_rtn, from_rtn}
 abbrev along : ℤ → List ℤ
 along x = x ∷ pos 0 ∷ pos 0 ∷ []
 
-pub radial_comes_back : from_rtn (along (pos 10000000)) (along (pos 10000000)) ≡ Vector (as_coordinates (along (pos 10000000)))
+pub radial_comes_back : from_rtn (along (pos 10000000)) (along (pos 10000000)) ≡ Ok (as_coordinates (along (pos 10000000)))
 unfolding from_rtn rtn_turned rtn_rows applied end_turn length_of unit_of cross_of solar_axis hci_rows root_of root_from cosine_of sine_of one_turn half_sine quarter_sine entry plus_terms minus_terms term whole part factorial
 radial_comes_back = refl
 
-pub no_place : to_rtn zeros (along (pos 10000000)) ≡ Refused NoDirection
+pub no_place : to_rtn zeros (along (pos 10000000)) ≡ Err NoDirection
 unfolding to_rtn rtn_turned rtn_rows applied end_turn length_of unit_of cross_of solar_axis hci_rows root_of root_from cosine_of sine_of one_turn half_sine quarter_sine entry plus_terms minus_terms term whole part factorial
 no_place = refl
 
@@ -30,11 +29,11 @@ pub limit_accepted : turned_status (to_rtn (along (pos 10000000)) (along (pos 50
 unfolding to_rtn rtn_turned rtn_rows applied end_turn length_of unit_of cross_of solar_axis hci_rows root_of root_from cosine_of sine_of one_turn half_sine quarter_sine entry plus_terms minus_terms term whole part factorial
 limit_accepted = refl
 
-pub beyond_refused : to_rtn (along (pos 10000000)) (along (pos 500000001)) ≡ Refused TooFar
+pub beyond_refused : to_rtn (along (pos 10000000)) (along (pos 500000001)) ≡ Err TooFar
 unfolding to_rtn rtn_turned
 beyond_refused = refl
 
-pub beyond_below_refused : to_rtn (along (pos 10000000)) (along (negsuc 500000000)) ≡ Refused TooFar
+pub beyond_below_refused : to_rtn (along (pos 10000000)) (along (negsuc 500000000)) ≡ Err TooFar
 unfolding to_rtn rtn_turned
 beyond_below_refused = refl
 

@@ -2,30 +2,32 @@
 // In a rotation 10^9 stands for one. Lengths are counts of 10^-7 au. The Earth's place in HAE is the caller's.
 #![tactic(auto)]
 
-ghost use Rattle.std.specs.Prelude.{◌≡◌};
+ghost use Rattle.std.specs.Prelude.{◌≡◌, if◌then◌else◌, Ok, Err};
+ghost use Rattle.refusals.specs.declared.Refusal.TheVariants.{NoDirection};
 ghost use Rattle.integers.specs.Triple.{PartsWithin};
 ghost use Rattle.vectors.specs.Range.{NoLonger};
 ghost use Rattle.frames.specs.Range.{EarthFits};
 ghost use Rattle.vectors.specs.Vector.{applied};
 ghost use Rattle.frames.specs.Frame.{KnownFrame, is_frame, HasRows, needs_earth, gei_rows, hci_rows, solar_axis, on_ecliptic, hee_rows, heeq_rows, rotation_of, hae_turned, turned_between};
 ghost use Rattle.frames.specs.Answer.{part_in_limits, in_limits, as_coordinates};
-ghost use Rattle.frames.specs.Rtn.{rtn_of, rtn_turned, to_rtn, from_rtn};
+ghost use Rattle.frames.specs.Rtn.{rtn_of, rtn_rows, has_direction, rtn_turned, to_rtn, from_rtn};
 
 use refusals::Refusal;
 
-// Three coordinates. A struct, since an enum holds no array.
-#[derive(Clone, Copy)]
+// Three coordinates by name, as a caller reads them.
+#[derive(Clone, Copy, Debug, PartialEq, Eq)]
 pub struct Coordinates {
     pub x: i64,
     pub y: i64,
     pub z: i64,
 }
 
-// A turned vector, or the refusal: 5 or 6 of RTN; 1, 2, 4 or 5 of a turn on a date.
-#[derive(Clone, Copy)]
-pub enum Turned {
-    Vector(Coordinates),
-    Refused(Refusal),
+impl From<[i64; 3]> for Coordinates {
+    ghost from_gives = { λ v c. c ≡ as_coordinates v };
+
+    fn from([x, y, z]: [i64; 3]) -> Coordinates {
+        Coordinates { x, y, z }
+    }
 }
 
 // GEI and HCI depend on no date, so their numbers are constants. Each is proved to be the sine or cosine, or the product of
@@ -42,7 +44,13 @@ const HCI: [[i64; 3]; 3] = [
     [122_321_270, -31_042_919, 992_004_572],
 ];
 
+// RTN has a direction where r is 0.01 au long or longer, and S×R 0.001 of one or longer.
+const LEAST_LENGTH: u64 = 100_000;
+
+const LEAST_ACROSS: u64 = 1_000_000;
+
 // The rows that turn HAE into GEI of J2000.
+#[tactic(auto, using(crate::proofs::Rows::gei_is))]
 pub fn gei() -> [[i64; 3]; 3]
     ensures { result ≡ gei_rows }
 {
@@ -50,6 +58,7 @@ pub fn gei() -> [[i64; 3]; 3]
 }
 
 // The rows that turn HAE into HCI.
+#[tactic(auto, using(crate::proofs::Rows::hci_is))]
 pub fn hci() -> [[i64; 3]; 3]
     ensures { result ≡ hci_rows }
 {
@@ -57,6 +66,7 @@ pub fn hci() -> [[i64; 3]; 3]
 }
 
 // The solar axis, HCI's last row.
+#[tactic(auto, using(crate::proofs::Rows::axis_is))]
 pub fn solar_axis() -> [i64; 3]
     ensures { result ≡ solar_axis }
 {
@@ -71,15 +81,17 @@ fn on_ecliptic(earth: [i64; 3]) -> [i64; 3]
 }
 
 // The rows that turn HAE into HEE.
+#[tactic(auto, unfolding(crate::specs::Frame::hee_rows))]
 pub fn hee(earth: [i64; 3]) -> [[i64; 3]; 3]
     requires { PartsWithin 1000000000 earth }
     ensures { result ≡ hee_rows earth }
 {
     let x = vectors::unit(on_ecliptic(earth));
-    [x, [0 - x[1], x[0], 0], [0, 0, 1_000_000_000]]
+    [x, [-x[1], x[0], 0], [0, 0, 1_000_000_000]]
 }
 
 // The rows that turn HAE into HEEQ.
+#[tactic(auto, unfolding(crate::specs::Frame::heeq_rows))]
 pub fn heeq(earth: [i64; 3]) -> [[i64; 3]; 3]
     requires { PartsWithin 1000000000 earth }
     ensures { result ≡ heeq_rows earth }
@@ -90,21 +102,18 @@ pub fn heeq(earth: [i64; 3]) -> [[i64; 3]; 3]
 }
 
 // The rows that turn HAE into frame 2, 3, 4 or 5.
+#[tactic(auto, unfolding(crate::specs::Frame::rotation_of))]
 pub fn rotation(frame: i64, earth: [i64; 3]) -> [[i64; 3]; 3]
     requires has_rows { HasRows frame }
     requires parts_within { PartsWithin 1000000000 earth }
     ensures { result ≡ rotation_of frame earth }
 {
-    if frame == 2 {
-        return gei();
+    match frame {
+        2 => gei(),
+        3 => hci(),
+        4 => hee(earth),
+        _ => heeq(earth),
     }
-    if frame == 3 {
-        return hci();
-    }
-    if frame == 4 {
-        return hee(earth);
-    }
-    heeq(earth)
 }
 
 // Whether there is a frame of this number.
@@ -122,6 +131,7 @@ pub fn needs_earth(frame: i64) -> bool
 }
 
 // A vector of HAE in a frame, or back. It may be one that a turn to HAE gives.
+#[tactic(auto, unfolding(crate::specs::Frame::hae_turned))]
 fn hae_turned(back: bool, frame: i64, earth: [i64; 3], v: [i64; 3]) -> [i64; 3]
     requires known_frame { KnownFrame frame }
     requires earth_fits { EarthFits frame earth }
@@ -135,6 +145,7 @@ fn hae_turned(back: bool, frame: i64, earth: [i64; 3], v: [i64; 3]) -> [i64; 3]
 }
 
 // A vector of one frame in another, by way of HAE. A frame to itself leaves it unchanged.
+#[tactic(auto, unfolding(crate::specs::Frame::turned_between))]
 pub fn turned_between(from: i64, to: i64, earth: [i64; 3], v: [i64; 3]) -> [i64; 3]
     requires known_frame { KnownFrame from × EarthFits from earth }
     requires known_frame_2 { KnownFrame to × EarthFits to earth }
@@ -158,24 +169,14 @@ fn part_in_limits(z: i64) -> bool
 pub fn in_limits(v: [i64; 3]) -> bool
     ensures { result ≡ in_limits v }
 {
-    if !part_in_limits(v[0]) {
-        return false;
-    }
-    if !part_in_limits(v[1]) {
-        return false;
-    }
-    part_in_limits(v[2])
+    v.iter().all(|&z| part_in_limits(z))
 }
 
 // A vector as a struct.
 pub fn as_coordinates(v: [i64; 3]) -> Coordinates
     ensures { result ≡ as_coordinates v }
 {
-    Coordinates {
-        x: v[0],
-        y: v[1],
-        z: v[2],
-    }
+    Coordinates::from(v)
 }
 
 // The rows R, T, N.
@@ -187,39 +188,48 @@ fn rtn(radial: [i64; 3], tangential: [i64; 3]) -> [[i64; 3]; 3]
     [radial, tangential, vectors::cross(radial, tangential)]
 }
 
-// A vector there or back at the place r. Refusal 5 comes before 6, so that no length is taken of a place too far.
-fn rtn_turned(back: bool, r: [i64; 3], v: [i64; 3]) -> Turned
-    ensures { result ≡ rtn_turned back r v }
+// The rows R, T, N at the place r, or refusal 6 where r or S×R is too short to give a direction.
+#[tactic(auto, unfolding(crate::specs::Rtn::rtn_rows, vectors::specs::Vector::unit_of))]
+fn rtn_at(r: [i64; 3]) -> Result<[[i64; 3]; 3], Refusal>
+    requires { PartsWithin 1000000000 r }
+    ensures { result ≡ if has_direction r then Ok (rtn_rows r) else Err NoDirection }
 {
-    if !in_limits(v) {
-        return Turned::Refused(Refusal::TooFar);
-    }
-    if !in_limits(r) {
-        return Turned::Refused(Refusal::TooFar);
-    }
     let l = vectors::length(r);
-    if l < 100_000 {
-        return Turned::Refused(Refusal::NoDirection);
+    if l < LEAST_LENGTH {
+        return Err(Refusal::NoDirection);
     }
     let radial = vectors::over_length(l, r);
     let across = vectors::cross(solar_axis(), radial);
     let k = vectors::length(across);
-    if k < 1_000_000 {
-        return Turned::Refused(Refusal::NoDirection);
+    if k < LEAST_ACROSS {
+        return Err(Refusal::NoDirection);
     }
-    let rows = rtn(radial, vectors::over_length(k, across));
-    Turned::Vector(as_coordinates(vectors::applied(vectors::way(rows, back), v)))
+    Ok(rtn(radial, vectors::over_length(k, across)))
+}
+
+// A vector there or back at the place r. Refusal 5 comes before 6, so that no length is taken of a place too far.
+#[tactic(auto, unfolding(crate::specs::Rtn::rtn_turned))]
+fn rtn_turned(back: bool, r: [i64; 3], v: [i64; 3]) -> Result<Coordinates, Refusal>
+    ensures { result ≡ rtn_turned back r v }
+{
+    if !in_limits(v) || !in_limits(r) {
+        return Err(Refusal::TooFar);
+    }
+    let rows = rtn_at(r)?;
+    Ok(Coordinates::from(vectors::applied(vectors::way(rows, back), v)))
 }
 
 // A vector of HAE as R, T, N parts at a spacecraft's place r in HAE.
-pub fn to_rtn(r: [i64; 3], v: [i64; 3]) -> Turned
+#[tactic(auto, unfolding(crate::specs::Rtn::to_rtn))]
+pub fn to_rtn(r: [i64; 3], v: [i64; 3]) -> Result<Coordinates, Refusal>
     ensures { result ≡ to_rtn r v }
 {
     rtn_turned(false, r, v)
 }
 
 // R, T, N parts at r as a vector of HAE.
-pub fn from_rtn(r: [i64; 3], v: [i64; 3]) -> Turned
+#[tactic(auto, unfolding(crate::specs::Rtn::from_rtn))]
+pub fn from_rtn(r: [i64; 3], v: [i64; 3]) -> Result<Coordinates, Refusal>
     ensures { result ≡ from_rtn r v }
 {
     rtn_turned(true, r, v)
