@@ -11,7 +11,6 @@
 --     Rounding     floor(a / k + 1/2): by the value of a / k alone
 --     Cast         what the machine reads back, and its casts between signed and unsigned numbers
 --     Arrays       each element of an array of signed numbers fits 64 bits
---     Below        a number below zero by casts that lose nothing: -1 - z, also for the least number
 --     Twos         two's complement: a number's 64 bits, and the number of 64 bits
 --     Same         the test whether two numbers are one, and that the machine tells it by their bits
 --     Division     the machine's quotient and rest, toward zero, and the floor from them
@@ -31,7 +30,6 @@ pub mod Ends
 pub mod Rounding
 pub mod Cast
 pub mod Arrays
-pub mod Below
 pub mod Twos
 pub mod Same
 pub mod Division

@@ -15,14 +15,14 @@ ghost use Rattle.std.proofs.Common.{of_z, to_z};
 pub fn is_from_to(a: i64, b: i64, z: i64) -> bool
     ensures { result ≡ is_from_to a b z }
 {
-    (a <= z) & (z <= b)
+    a <= z && z <= b
 }
 
-// The size of any number: -1 - z is taken before the cast, since 0 - z overflows at the least number.
+// The size of any number, also of the least one.
 pub fn size(z: i64) -> u64
     ensures { result ≡ nat_abs z }
 {
-    if z < 0 { (-1 - z) as u64 + 1 } else { z as u64 }
+    z.unsigned_abs()
 }
 
 // The number of a size, with a sign.
@@ -31,7 +31,7 @@ pub fn with_sign(negative: bool, size: u64) -> i64
     ensures { result ≡ signed negative size }
 {
     let n = size as i64;
-    if negative { 0 - n } else { n }
+    if negative { -n } else { n }
 }
 
 // Whether two numbers are one.
@@ -41,48 +41,36 @@ pub fn are_same(a: i64, b: i64) -> bool
     a == b
 }
 
-// How far apart any two numbers are. On one side of 0 their difference fits 64 bits; on two sides it need not, and is the sum of their sizes.
+// How far apart any two numbers are, also where their difference does not fit 64 bits with its sign.
 pub fn distance(a: i64, b: i64) -> u64
     ensures { result ≡ nat_abs (a -ℤ b) }
 {
-    if (a < 0) == (b < 0) {
-        size(a - b)
-    } else {
-        size(a) + size(b)
-    }
+    a.abs_diff(b)
 }
 
 // Whether two numbers have opposite signs. Their product may be past 64 bits, and is not formed.
 pub fn opposite_signs(a: i64, b: i64) -> bool
     ensures { result ≡ opposite_signs a b }
 {
-    ((a < 0) & (0 < b)) | ((0 < a) & (b < 0))
+    (a < 0 && 0 < b) || (0 < a && b < 0)
 }
 
 // The 64 bits of z in two's complement: below zero, 2^64 less its size.
 pub fn bits_of(z: i64) -> u64
     ensures { result ≡ of_z w64 z }
 {
-    let size = size(z);
-    if 0 <= z {
-        size
-    } else {
-        0xffff_ffff_ffff_ffff - size + 1
-    }
+    z.cast_unsigned()
 }
 
 // The signed number that has these 64 bits.
 pub fn of_bits(n: u64) -> i64
     ensures { result ≡ to_z w64 n }
 {
-    if n < 0x8000_0000_0000_0000 {
-        n as i64
-    } else {
-        -1 - ((0xffff_ffff_ffff_ffff - n) as i64)
-    }
+    n.cast_signed()
 }
 
-// floor(a / d). The machine divides toward zero; where that leaves a rest below zero, the floor is one less.
+// floor(a / d). The machine divides toward zero; where that leaves a rest below zero, the floor is one less. With `div_euclid`, which jumps
+// by the sign of a, numbers of changing sign take nearly twice as long.
 pub fn floor_div(a: i64, d: i64) -> i64
     requires { pos 0 <ℤ d }
     ensures { result ≡ floor_div a (nat_abs d) }
@@ -91,7 +79,7 @@ pub fn floor_div(a: i64, d: i64) -> i64
     if a % d < 0 { q - 1 } else { q }
 }
 
-// What floor(a / d) leaves of a: from 0 up to but without d.
+// What floor(a / d) leaves of a: from 0 up to but without d. `rem_euclid` jumps by the sign of a too.
 pub fn floor_mod(a: i64, d: i64) -> i64
     requires { pos 0 <ℤ d }
     ensures { result ≡ floor_mod a (nat_abs d) }
@@ -123,6 +111,7 @@ pub fn unit_product(a: i64, b: i64) -> i64
 
 // z / 10^9 to the nearest whole number, a half away from zero: the division that ends a turn and step 5 (02, Item 4). The half is added to
 // the size of z, and the sign put back, so that opposite numbers have opposite ends.
+#[tactic(auto, unfolding(crate::specs::Floor::end_turn))]
 pub fn end_turn(z: i64) -> i64
     ensures { result ≡ end_turn z }
 {

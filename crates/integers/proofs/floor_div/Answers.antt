@@ -6,28 +6,17 @@ use lib.Signed.{quot_z}
 use mir.Syntax.{w64}
 use mir.Val.{SFits}
 use Rattle.integers.proofs.Floor.{floor_fits}
-use Rattle.integers.proofs.Cast.{fits₂, val₂}
+use Rattle.integers.proofs.Cast.{val₂}
 use Rattle.integers.proofs.Number.{lit}
-use Rattle.integers.proofs.Division.{div_need, quotient, floor_below, floor_not_below}
+use Rattle.integers.proofs.Division.{quotient, floor_below, floor_not_below}
 use Rattle.integers.proofs.floor_div.Goals as goal
 use Rattle.integers.proofs.floor_div.Goals.{Then-a-d-lt0}
-
-pub nonzero_div-q : goal.nonzero_div-q
-nonzero_div-q c = div_need c.args.a c.args.d c.ranges.a c.ranges.d c.requires
-
-pub nonzero_rem-a : goal.nonzero_rem-a
-nonzero_rem-a c = div_need c.args.a c.args.d c.ranges.a c.ranges.d c.requires
 
 -- one less than the quotient is the floor, which fits
 less_fits : (c : Then-a-d-lt0) → SFits w64 (quot_z c.before.args.a (pos (nat_abs c.before.args.d)) -ℤ pos 1)
 less_fits c =
     let s = c.before in
     subst (SFits w64) (sym (floor_below s.args.a s.args.d s.ranges.a s.ranges.d s.requires c.if-a-d-lt0.true).0) (floor_fits s.args.a (nat_abs s.args.d) s.ranges.a)
-
-pub overflow_sub-result : goal.overflow_sub-result
-overflow_sub-result c =
-    let s = c.before in
-    fits₂ ◌-ℤ◌ (quotient s.args.a s.args.d s.ranges.a s.ranges.d s.requires) (lit (pos 1)).is (less_fits c)
 
 pub returns-then-a-d-lt0 : goal.returns-then-a-d-lt0
 returns-then-a-d-lt0 c =

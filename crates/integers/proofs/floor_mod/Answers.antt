@@ -10,13 +10,10 @@ use native.Mathlib.Omega.{arith}
 use Rattle.integers.specs.Floor.{floor_mod}
 use Rattle.integers.proofs.Difference.{zarith}
 use Rattle.integers.proofs.Floor.{pos_abs, abs_pos, mod_low, mod_high}
-use Rattle.integers.proofs.Cast.{fits₂, val₂}
-use Rattle.integers.proofs.Division.{read_divisor, div_need, rest, floor_below, floor_not_below}
+use Rattle.integers.proofs.Cast.{val₂}
+use Rattle.integers.proofs.Division.{read_divisor, rest, floor_below, floor_not_below}
 use Rattle.integers.proofs.floor_mod.Goals as goal
 use Rattle.integers.proofs.floor_mod.Goals.{Then-r-lt0}
-
-pub nonzero_rem-r : goal.nonzero_rem-r
-nonzero_rem-r c = div_need c.args.a c.args.d c.ranges.a c.ranges.d c.requires
 
 -- what the floor leaves fits, since d does
 mod_fits : (a : ℤ) (m : ℕ) → 0 < m → SFits w64 (pos m) → SFits w64 (floor_mod a m)
@@ -28,11 +25,6 @@ more_fits c =
     let s = c.before in
     subst (SFits w64) (sym (floor_below s.args.a s.args.d s.ranges.a s.ranges.d s.requires c.if-r-lt0.true).1)
     (mod_fits s.args.a (nat_abs s.args.d) (abs_pos s.args.d s.requires) (rw (pos_abs s.args.d s.requires) s.ranges.d))
-
-pub overflow_add-result : goal.overflow_add-result
-overflow_add-result c =
-    let s = c.before in
-    fits₂ ◌+ℤ◌ (rest s.args.a s.args.d s.ranges.a s.ranges.d s.requires) (read_divisor s.args.a s.args.d s.ranges.a s.ranges.d s.requires) (more_fits c)
 
 pub returns-then-r-lt0 : goal.returns-then-r-lt0
 returns-then-r-lt0 c =

@@ -3,16 +3,16 @@
 use Prim.Native.Nat.{ℕ, ◌*◌, ◌/◌, ◌<◌, ◌^◌}
 use native.Mathlib.Omega.{arith}
 use native.Mathlib.Nat.{le_refl, le_of_lt}
-use mathlib.Core.Path.{◌∙◌, sym, subst}
+use mathlib.Core.Path.{◌∙◌}
 use lib.IntN.{ℤ, pos, nat_abs, ◌*ℤ◌}
-use lib.Signed.{◌<ℤ◌, quot_z, rem_z}
+use lib.Signed.{quot_z, rem_z}
 use mir.Syntax.{w64}
 use mir.Val.{SFits}
 use Rattle.integers.specs.Floor.{floor_div}
 use Rattle.integers.proofs.Floor.{abs_pos, quot_rem, quot_abs, rem_small, floor_split}
 use Rattle.integers.proofs.Cast.{read, back}
 use Rattle.integers.proofs.Number.{Num, arg, got, w_lit, w_floor<, mul_fits<, mul<, add_fits<, add<}
-use Rattle.integers.proofs.Division.{div_need, quotient, rest}
+use Rattle.integers.proofs.Division.{quotient, rest}
 use Rattle.integers.proofs.mul_div.Goals as goal
 use Rattle.integers.proofs.mul_div.Goals.{After-floor_div, Start}
 
@@ -57,18 +57,6 @@ module _ (t : Start) where
   vs : Num (read (read (rem_z (read a) (read d)) *ℤ read (rem_z (read b) (read d)))) (rem_z a (pos m) *ℤ rem_z b (pos m)) (m * m)
   vs = mul< (left a t.ranges.a) (left b t.ranges.b) t.requires.split_fits.rests
 
-pub nonzero_div-q : goal.nonzero_div-q
-nonzero_div-q c = div_need (b c) (d c) c.ranges.b c.ranges.d c.requires.pos_bound
-
-pub nonzero_rem-s : goal.nonzero_rem-s
-nonzero_rem-s c = div_need (b c) (d c) c.ranges.b c.ranges.d c.requires.pos_bound
-
-pub nonzero_div-u : goal.nonzero_div-u
-nonzero_div-u c = div_need (a c) (d c) c.ranges.a c.ranges.d c.requires.pos_bound
-
-pub nonzero_rem-v : goal.nonzero_rem-v
-nonzero_rem-v c = div_need (a c) (d c) c.ranges.a c.ranges.d c.requires.pos_bound
-
 pub overflow_mul-result : goal.overflow_mul-result
 overflow_mul-result c = mul_fits< (na c) (by c (b c) c.ranges.b) (aq_less c)
 
@@ -80,9 +68,6 @@ overflow_add-result c = add_fits< (aq c) (us c) (omega (arith, c.requires.split_
 
 pub overflow_mul-v : goal.overflow_mul-v
 overflow_mul-v c = mul_fits< (left c (a c) c.ranges.a) (left c (b c) c.ranges.b) c.requires.split_fits.rests
-
-pub floor_div-requires : goal.floor_div-requires
-floor_div-requires c = subst (λ (z : ℤ). pos 0 <ℤ z) (sym (back (d c) c.ranges.d)) c.requires.pos_bound
 
 f : (c : After-floor_div) → Num (read c.floor_div.result) (floor_div (rem_z (a c.before) (pos (m c.before)) *ℤ rem_z (b c.before) (pos (m c.before))) (m c.before)) (m c.before)
 f c =
