@@ -71,6 +71,7 @@ pub fn of_bits(n: u64) -> i64
 
 // floor(a / d). The machine divides toward zero; where that leaves a rest below zero, the floor is one less. With `div_euclid`, which jumps
 // by the sign of a, numbers of changing sign take nearly twice as long.
+#[tactic(auto, using(crate::proofs::Division::div_below, crate::proofs::Division::div_not_below))]
 pub fn floor_div(a: i64, d: i64) -> i64
     requires { pos 0 <ℤ d }
     ensures { result ≡ floor_div a (nat_abs d) }
@@ -80,6 +81,7 @@ pub fn floor_div(a: i64, d: i64) -> i64
 }
 
 // What floor(a / d) leaves of a: from 0 up to but without d. `rem_euclid` jumps by the sign of a too.
+#[tactic(auto, using(crate::proofs::Division::mod_below, crate::proofs::Division::mod_not_below))]
 pub fn floor_mod(a: i64, d: i64) -> i64
     requires { pos 0 <ℤ d }
     ensures { result ≡ floor_mod a (nat_abs d) }
