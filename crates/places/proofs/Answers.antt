@@ -15,8 +15,6 @@ use Rattle.refusals.specs.declared.Refusal.TheVariants.{NotFinite, OutsideInterv
 use Rattle.refusals.specs.Number.{number_of}
 use Rattle.dates.specs.declared.Date.{Date}
 use Rattle.dates.specs.declared.Date.TheVariants.{Minutes}
-use Rattle.dates.specs.declared.Moment.{Moment}
-use Rattle.dates.specs.declared.Moment.TheVariants.{Accepted, Refused as RefusedDate}
 use Rattle.dates.specs.Moment.{tested}
 use Rattle.dates.proofs.Laws.{inside}
 use Rattle.tables.specs.Table.{KnownTable, Body, is_body, OnTable, interval_of, moment_after}
@@ -26,9 +24,9 @@ use Rattle.frames.specs.Frame.{KnownFrame, is_frame, turned_between}
 use Rattle.frames.specs.Answer.{as_coordinates}
 use Rattle.vectors.proofs.Turns.{part_no_longer}
 use Rattle.projector.specs.Au.{CountsExact}
-use Rattle.places.specs.declared.PlaceAnswer.TheVariants.{Found, Refused}
-use Rattle.places.specs.Answer.{hae_at, earth_at, place_if, place_on, place_after, place_answer}
+use Rattle.places.specs.Answer.{place_coordinates, hae_at, earth_at, place_if, place_on, place_after, place_answer}
 use Rattle.places.proofs.Earth.{place_long}
+use Rattle.std.specs.Prelude.{Err, Ok, Result}
 
 -- what is so of a place that was found
 pub record IsFound (table body frame m : ℤ) (p : Coordinates) : Type 0 where
@@ -51,16 +49,21 @@ dated r (inl (inl e)) = numbered NotFinite r tt e
 dated r (inl (inr e)) = numbered OutsideInterval r tt e
 dated r (inr e) = eleven e.0 e.1
 
+-- the minute of an answer, zero where there is none
+place_minute : Result (ℤ × Coordinates) Refusal → ℤ
+place_minute (Ok found) = found.0
+place_minute (Err r) = pos 0
+
 module _ (date : Date) (table offset body frame : ℤ) where
-  pub found_is : (m : ℤ) (p : Coordinates) → place_after date table offset body frame ≡ Found m p → IsFound table body frame m p
+  pub found_is : (m : ℤ) (p : Coordinates) → place_after date table offset body frame ≡ Ok (m, p) → IsFound table body frame m p
   found_is m p e = go (moment_after date table offset) (after_inside date table offset) e
     where
-      by : (b c : Bool) (n : ℤ) → is_body body ≡ b → is_frame frame ≡ c → OnTable table n → place_if b c table body frame n ≡ Found m p → IsFound table body frame m p
+      by : (b c : Bool) (n : ℤ) → is_body body ≡ b → is_frame frame ≡ c → OnTable table n → place_if b c table body frame n ≡ Ok (m, p) → IsFound table body frame m p
       by false c n s t h f = let z : ◌≡◌ {A = ℕ} 0 1 = cc in absurd (omega arith)
       by true false n s t h f = let z : ◌≡◌ {A = ℕ} 0 1 = cc in absurd (omega arith)
       by true true n s t h f =
-          let i : n ≡ m = cc in
-          let g : as_coordinates (turned_between (pos 1) frame (earth_at table n) (hae_at table body n)) ≡ p = cc in
+          let i = ap place_minute f in
+          let g = ap place_coordinates f in
           record {
             known_body = inside_of (pos 1) (pos 9) body s;
             known_frame = inside_of (pos 1) (pos 5) frame t;
@@ -68,24 +71,24 @@ module _ (date : Date) (table offset body frame : ℤ) where
             turned = subst (λ (k : ℤ). as_coordinates (turned_between (pos 1) frame (earth_at table k) (hae_at table body k)) ≡ p) i g;
           }
 
-      go : (o : Moment) → ((n : ℤ) → o ≡ Accepted n → OnTable table n) → place_on o table body frame ≡ Found m p → IsFound table body frame m p
-      go (Accepted n) k f = by (is_body body) (is_frame frame) n refl refl (k n refl) f
-      go (RefusedDate r) k f = let z : ◌≡◌ {A = ℕ} 0 1 = cc in absurd (omega arith)
+      go : (o : Result ℤ Refusal) → ((n : ℤ) → o ≡ Ok n → OnTable table n) → place_on o table body frame ≡ Ok (m, p) → IsFound table body frame m p
+      go (Ok n) k f = by (is_body body) (is_frame frame) n refl refl (k n refl) f
+      go (Err r) k f = let z : ◌≡◌ {A = ℕ} 0 1 = cc in absurd (omega arith)
 
-  pub refused_is : (r : Refusal) → place_after date table offset body frame ≡ Refused r → IsRefused table r
+  pub refused_is : (r : Refusal) → place_after date table offset body frame ≡ Err r → IsRefused table r
   refused_is r e = go (moment_after date table offset) (after_refused date table offset) e
     where
-      by : (b c : Bool) (n : ℤ) → place_if b c table body frame n ≡ Refused r → IsRefused table r
+      by : (b c : Bool) (n : ℤ) → place_if b c table body frame n ≡ Err r → IsRefused table r
       by false c n f = numbered NoSuchBody r tt cc
       by true false n f = numbered NoSuchFrame r tt cc
       by true true n f = let z : ◌≡◌ {A = ℕ} 0 1 = cc in absurd (omega arith)
 
-      go : (o : Moment) → ((q : Refusal) → o ≡ RefusedDate q → ((q ≡ NotFinite) ⊎ (q ≡ OutsideInterval)) ⊎ ((q ≡ NoSuchTable) × (KnownTable table → ⊥))) → place_on o table body frame ≡ Refused r → IsRefused table r
-      go (Accepted n) k f = by (is_body body) (is_frame frame) n f
-      go (RefusedDate q) k f = let g : q ≡ r = cc in subst (IsRefused table) g (dated q (k q refl))
+      go : (o : Result ℤ Refusal) → ((q : Refusal) → o ≡ Err q → ((q ≡ NotFinite) ⊎ (q ≡ OutsideInterval)) ⊎ ((q ≡ NoSuchTable) × (KnownTable table → ⊥))) → place_on o table body frame ≡ Err r → IsRefused table r
+      go (Ok n) k f = by (is_body body) (is_frame frame) n f
+      go (Err q) k f = let g : q ≡ r = cc in subst (IsRefused table) g (dated q (k q refl))
 
   -- a place's parts become doubles exactly
-  pub found_exact : (m : ℤ) (p : Coordinates) → place_after date table offset body frame ≡ Found m p → CountsExact p.x p.y p.z
+  pub found_exact : (m : ℤ) (p : Coordinates) → place_after date table offset body frame ≡ Ok (m, p) → CountsExact p.x p.y p.z
   found_exact m p e =
       let f = found_is m p e in
       let v = turned_between (pos 1) frame (earth_at table m) (hae_at table body m) in
@@ -98,18 +101,18 @@ module _ (date : Date) (table offset body frame : ℤ) where
       })
 
 -- ---- on every minute of a table's interval the place of a known body in a known frame is found
-pub place_found : (table body frame m : ℤ) → OnTable table m → Body body → KnownFrame frame → place_answer (Minutes m) table body frame ≡ Found m (as_coordinates (turned_between (pos 1) frame (earth_at table m) (hae_at table body m)))
+pub place_found : (table body frame m : ℤ) → OnTable table m → Body body → KnownFrame frame → place_answer (Minutes m) table body frame ≡ Ok (m, as_coordinates (turned_between (pos 1) frame (earth_at table m) (hae_at table body m)))
 place_found table body frame m h b f =
     let accepted = after_tested (Minutes m) table (pos 0) m refl h.known ∙ ap (tested (interval_of table)) (+ℤ_idr m) ∙ inside (interval_of table) m h.covered in
-    ap (λ (o : Moment). place_on o table body frame) accepted ∙ (λ i. place_if (is_inside (pos 1) (pos 9) body b i) (is_inside (pos 1) (pos 5) frame f i) table body frame m)
+    ap (λ (o : Result ℤ Refusal). place_on o table body frame) accepted ∙ (λ i. place_if (is_inside (pos 1) (pos 9) body b i) (is_inside (pos 1) (pos 5) frame f i) table body frame m)
 
 -- in HAE it is that of the orbit itself
-pub hae_place : (table body m : ℤ) → OnTable table m → Body body → place_answer (Minutes m) table body (pos 1) ≡ Found m (as_coordinates (hae_at table body m))
+pub hae_place : (table body m : ℤ) → OnTable table m → Body body → place_answer (Minutes m) table body (pos 1) ≡ Ok (m, as_coordinates (hae_at table body m))
 unfolding turned_between
 hae_place table body m h b = place_found table body (pos 1) m h b (of_test (pos 1) (pos 5) (pos 1) tt)
 
 -- a place that was found, for whatever date and offset, is found again by its minute
-pub found_again : (date : Date) (table offset body frame m : ℤ) (p : Coordinates) → place_after date table offset body frame ≡ Found m p → place_answer (Minutes m) table body frame ≡ Found m p
+pub found_again : (date : Date) (table offset body frame m : ℤ) (p : Coordinates) → place_after date table offset body frame ≡ Ok (m, p) → place_answer (Minutes m) table body frame ≡ Ok (m, p)
 found_again date table offset body frame m p e =
     let f = found_is date table offset body frame m p e in
-    place_found table body frame m f.on_table f.known_body f.known_frame ∙ ap (Found m) f.turned
+    place_found table body frame m f.on_table f.known_body f.known_frame ∙ ap (λ (p : Coordinates). Ok (m, p)) f.turned

@@ -13,7 +13,6 @@ use Rattle.integers.proofs.Difference.{zarith}
 use Rattle.integers.proofs.Table.{or_left, or_right}
 use Rattle.integers.proofs.Triples.{three}
 use Rattle.dates.specs.declared.Date.{Date}
-use Rattle.dates.specs.declared.Moment.TheVariants.{Accepted}
 use Rattle.tables.specs.Table.{Body, OnTable, moment_after}
 use Rattle.tables.proofs.Laws.{after_inside}
 use Rattle.orbits.proofs.Rows.{table_place_within}
@@ -27,6 +26,7 @@ use Rattle.frames.proofs.Earth.{earth_long, ecliptic_long, across_long}
 use Rattle.frames.proofs.Frames.{between_long}
 use Rattle.places.specs.Answer.{hae_at, earth_at}
 use Rattle.places.specs.Earth.{earth_if}
+use Rattle.std.specs.Prelude.{Ok}
 
 pub hae_frame : KnownFrame (pos 1)
 hae_frame = record { low = omega zarith; high = omega zarith }
@@ -81,7 +81,7 @@ module _ (table m : ℤ) (h : OnTable table m) where
       between_long (earth_at table m) f g 500000000 866025404 866025837012593747 866025839 866026272012811247 866026274 v hf hg (earth_fits f) (earth_fits g) p tt tt tt tt tt tt tt
 
 -- ---- no length is 0: on every accepted date, by either table, HEE divides by the first, HEEQ by the second and the third
-pub lengths_not_0 : (date : Date) (table offset m : ℤ) → moment_after date table offset ≡ Accepted m → (9300000 ≤ length_of (on_ecliptic (earth_at table m))) × ((9300000 ≤ length_of (earth_at table m)) × (690000000 ≤ length_of (axis_cross (earth_at table m))))
+pub lengths_not_0 : (date : Date) (table offset m : ℤ) → moment_after date table offset ≡ Ok m → (9300000 ≤ length_of (on_ecliptic (earth_at table m))) × ((9300000 ≤ length_of (earth_at table m)) × (690000000 ≤ length_of (axis_cross (earth_at table m))))
 lengths_not_0 date table offset m e =
     let h = after_inside date table offset m e in
     let p = earth_within table m h in

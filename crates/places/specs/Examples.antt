@@ -10,18 +10,19 @@ use Rattle.angles.specs.Entry.{factorial, part, whole, term, plus_terms, minus_t
 use Rattle.angles.specs.Sine.{quarter_sine, half_sine, sine_of, cosine_of}
 use Rattle.kepler.specs.Equation.{e_star, F, error_of}
 use Rattle.kepler.specs.Eccentric.{reaches, halved, last_below, nearer_of, eccentric}
-use Rattle.kepler.specs.Answer.{solved_of, anomaly_status, anomaly_angle}
+use Rattle.kepler.specs.Answer.{solved_of, anomaly_angle}
 use Rattle.dates.specs.declared.Date.{Date}
 use Rattle.dates.specs.declared.Date.TheVariants.{Julian, Minutes}
 use Rattle.dates.specs.Minute.{julian_minute, minute_of_julian, drift_of}
-use Rattle.dates.specs.Moment.{tested, moment_at, moment_status, moment_minute}
+use Rattle.dates.specs.Moment.{tested, moment_at, moment_minute}
 use Rattle.tables.specs.Table.{table1, default_table, table_row, table_terms, interval_of, moment_after}
 use Rattle.orbits.specs.Elements.{element_in, elements_at, square_term, periodic_terms, mean_at, inclination_of}
 use Rattle.frames.specs.declared.Coordinates.{Coordinates}
 use Rattle.vectors.specs.Vector.{length_of, unit_of, cross_of, applied}
 use Rattle.frames.specs.Frame.{hci_rows, solar_axis}
-use Rattle.frames.specs.Answer.{as_coordinates, turned_status, turned_vector}
+use Rattle.frames.specs.Answer.{as_coordinates, turned_vector}
 use Rattle.frames.specs.Rtn.{rtn_rows, rtn_turned, to_rtn}
+use Rattle.refusals.specs.Number.{status_of}
 
 -- what an example says
 pub data Example : Type 0 where
@@ -44,16 +45,16 @@ abbrev pub same_coordinates : Coordinates → Coordinates → Bool
 same_coordinates p q = same p.x q.x && (same p.y q.y && same p.z q.z)
 
 abbrev pub holds : Example → Bool
-holds (is_minute d m) = same (moment_status (moment_after d default_table (pos 0))) (pos 0) && same (moment_minute (moment_after d default_table (pos 0))) m
-holds (is_refused d n) = same (moment_status (moment_after d default_table (pos 0))) n
+holds (is_minute d m) = same (status_of (moment_after d default_table (pos 0))) (pos 0) && same (moment_minute (moment_after d default_table (pos 0))) m
+holds (is_refused d n) = same (status_of (moment_after d default_table (pos 0))) n
 holds (is_element body k m x) = same (element_in (table_row default_table body) k m) x
 holds (is_inclination body m x) = same (inclination_of (elements_at (table_row default_table body) m)) x
 holds (is_mean body m x) = same (mean_at (table_row default_table body) (table_terms default_table body) m) x
 holds (is_sine t x) = same (sine_of t) x
-holds (is_anomaly e M E) = same (anomaly_status (solved_of e M)) (pos 0) && same (anomaly_angle (solved_of e M)) E
+holds (is_anomaly e M E) = same (status_of (solved_of e M)) (pos 0) && same (anomaly_angle (solved_of e M)) E
 holds (is_error e M E n) = eqb (error_of (e_star e) (one_turn M) E) n
-holds (is_no_anomaly e M n) = same (anomaly_status (solved_of e M)) n
-holds (is_rtn r v x) = same (turned_status (to_rtn r v)) (pos 0) && same_coordinates (turned_vector (to_rtn r v)) (as_coordinates x)
+holds (is_no_anomaly e M n) = same (status_of (solved_of e M)) n
+holds (is_rtn r v x) = same (status_of (to_rtn r v)) (pos 0) && same_coordinates (turned_vector (to_rtn r v)) (as_coordinates x)
 
 abbrev pub all : List Example → Bool
 all [] = true

@@ -26,12 +26,12 @@ returns-then-not-needed c =
 pub place_at-requires : goal.place_at-requires
 place_at-requires c =
     let s = c.before.before.before in
-    record { sines_value = s.requires.sines_value; body = earth_body; on_table = on_table_read s.ranges.table s.requires.on_table }
+    record { body = earth_body; on_table = on_table_read s.ranges.table s.requires }
 
 pub returns : goal.returns
 returns c =
     let e = c.before in
     let d = e.before in
     let s = d.before.before in
-    c.place_at.ensures ∙ (λ i. earth_at (back s.args.table s.ranges.table i) (covered_read s.requires.on_table i))
+    c.place_at.ensures ∙ (λ i. earth_at (back s.args.table s.ranges.table i) (covered_read s.requires i))
     ∙ sym (ap (λ (b : Bool). earth_if b s.args.table s.args.minute) (needed d ∙ e.if-not-needed.false))

@@ -11,11 +11,11 @@ use Rattle.tables.proofs.Laws.{covered_read, on_table_read}
 use Rattle.orbits.proofs.Rows.{table_place_within}
 use Rattle.frames.specs.Frame.{KnownFrame, is_frame, turned_between}
 use Rattle.frames.specs.Answer.{as_coordinates}
-use Rattle.places.specs.declared.PlaceAnswer.TheVariants.{Found}
 use Rattle.places.specs.Answer.{hae_at, earth_at, place_if}
 use Rattle.places.proofs.Earth.{hae_frame}
 use Rattle.places.proofs.place_on.Goals as goal
 use Rattle.places.proofs.place_on.Goals.{After-is_body, After-is_frame, After-place_at-v, Else-not-is_body, Else-not-is_frame, Start}
+use Rattle.std.specs.Prelude.{Ok}
 
 module _ (s : Start) where
   body_is : read s.args.body ≡ s.args.body
@@ -28,10 +28,10 @@ module _ (s : Start) where
   table_is = back s.args.table s.ranges.table
 
   minute_is : read s.args.minute ≡ s.args.minute
-  minute_is = covered_read s.requires.on_table
+  minute_is = covered_read s.requires
 
   on_table : OnTable (read s.args.table) (read s.args.minute)
-  on_table = on_table_read s.ranges.table s.requires.on_table
+  on_table = on_table_read s.ranges.table s.requires
 
   -- the answer by the outcomes of the two tests
   by : {b f : Bool} → is_body s.args.body ≡ b → is_frame s.args.frame ≡ f → place_if (is_body s.args.body) (is_frame s.args.frame) s.args.table s.args.body s.args.frame s.args.minute ≡ place_if b f s.args.table s.args.body s.args.frame s.args.minute
@@ -65,7 +65,7 @@ pub place_at-v-requires : goal.place_at-v-requires
 place_at-v-requires c =
     let e = c.before.before in
     let s = e.before.before in
-    record { sines_value = s.requires.sines_value; body = subst Body (sym (body_is s)) (known_body e); on_table = on_table s }
+    record { body = subst Body (sym (body_is s)) (known_body e); on_table = on_table s }
 
 hae_is : (c : After-place_at-v) → c.place_at-v.result ≡ hae_at c.before.before.before.before.before.args.table c.before.before.before.before.before.args.body c.before.before.before.before.before.args.minute
 hae_is c =
@@ -76,7 +76,7 @@ pub turned_on-requires : goal.turned_on-requires
 turned_on-requires c =
     let f = c.before in
     let e = f.before.before in
-    let s = e.before.before in record { sines_value = s.requires.sines_value; known_frame = (hae_frame, subst KnownFrame (sym (frame_is s)) (inside_of (pos 1) (pos 5) s.args.frame (has_frame f))); parts_within = subst (PartsWithin 1000000000) (sym (hae_is c)) (table_place_within s.args.table s.args.body s.args.minute (known_body e) s.requires.on_table); on_table = on_table s }
+    let s = e.before.before in record { known_frame = (hae_frame, subst KnownFrame (sym (frame_is s)) (inside_of (pos 1) (pos 5) s.args.frame (has_frame f))); parts_within = subst (PartsWithin 1000000000) (sym (hae_is c)) (table_place_within s.args.table s.args.body s.args.minute (known_body e) s.requires); on_table = on_table s }
 
 pub returns : goal.returns
 returns c =
@@ -85,4 +85,4 @@ returns c =
     let e = f.before.before in
     let s = e.before.before in
     let p = c.turned_on.ensures ∙ (λ i. as_coordinates (turned_between (pos 1) (frame_is s i) (earth_at (table_is s i) (minute_is s i)) (hae_is h i))) in
-    (λ i. Found (minute_is s i) (p i)) ∙ sym (by s (has_body e) (has_frame f))
+    (λ i. Ok (minute_is s i, p i)) ∙ sym (by s (has_body e) (has_frame f))

@@ -4,7 +4,6 @@ use mathlib.Core.Path.{◌≡◌, refl, subst, sym, ap, ◌∙◌}
 use mathlib.Core.Bool.{Bool, true, ◌&&◌}
 use lib.IntN.{ℤ, pos}
 use Rattle.integers.proofs.Cast.{read, back}
-use Rattle.frames.specs.declared.Turned.TheVariants.{Vector}
 use Rattle.frames.specs.Frame.{KnownFrame, is_frame, turned_between}
 use Rattle.frames.specs.Answer.{in_limits, as_coordinates}
 use Rattle.integers.proofs.Triples.{parts_more}
@@ -14,6 +13,7 @@ use Rattle.integers.proofs.Ranges.{inside_of}
 use Rattle.tables.proofs.Laws.{covered_read, on_table_read}
 use Rattle.places.proofs.turn_on.Goals as goal
 use Rattle.places.proofs.turn_on.Goals.{After-is_frame, After-is_frame-2, Else-not-in_limits, Else-not-is_frame, Else-not-is_frame-2, Start}
+use Rattle.std.specs.Prelude.{Ok}
 
 module _ (s : Start) where
   from_is : read s.args.from ≡ s.args.from
@@ -69,13 +69,12 @@ pub turned_on-requires : goal.turned_on-requires
 turned_on-requires c =
     let e = c.before.before in
     let s = e.before.before.before.before in record {
-      sines_value = s.requires.sines_value;
       known_frame = (
         subst KnownFrame (sym (from_is s)) (known_frame s.args.from (from_known e.before.before)),
         subst KnownFrame (sym (to_is s)) (known_frame s.args.to (to_known e)),
       );
       parts_within = parts_more (limits_parts s.args.v s.well_formed.1.1.1.1.1.0.1.0.1 (near c)) tt;
-      on_table = on_table_read s.ranges.table s.requires.on_table;
+      on_table = on_table_read s.ranges.table s.requires;
     }
 
 pub returns : goal.returns
@@ -83,5 +82,5 @@ returns c =
     let n = c.before in
     let e = n.before.before in
     let s = e.before.before.before.before in
-    ap Vector (c.turned_on.ensures ∙ (λ i. as_coordinates (turned_between (from_is s i) (to_is s i) (earth_at (back s.args.table s.ranges.table i) (covered_read s.requires.on_table i)) s.args.v)))
+    ap Ok (c.turned_on.ensures ∙ (λ i. as_coordinates (turned_between (from_is s i) (to_is s i) (earth_at (back s.args.table s.ranges.table i) (covered_read s.requires i)) s.args.v)))
     ∙ sym (by s (from_known e.before.before) (to_known e) (near n))

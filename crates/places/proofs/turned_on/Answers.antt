@@ -27,7 +27,7 @@ module _ (s : Start) where
   on_table = s.requires.on_table
 
 pub earth_for-earth-requires : goal.earth_for-earth-requires
-earth_for-earth-requires c = record { sines_value = c.requires.sines_value; on_table = on_table_read c.ranges.table (on_table c) }
+earth_for-earth-requires c = on_table_read c.ranges.table (on_table c)
 
 earth_is : (c : After-earth_for-earth) → c.earth_for-earth.result ≡ earth_if (needs_earth c.before.args.from || needs_earth c.before.args.to) c.before.args.table c.before.args.minute
 earth_is c =
@@ -44,5 +44,5 @@ returns c =
     let t = c.before in
     let e = t.before in
     let s = e.before in
-    c.as_coordinates.ensures
+    c.from.ensures
     ∙ ap as_coordinates (t.turned_between.ensures ∙ (λ i. turned_between (from_is s i) (to_is s i) (earth_is e i) s.args.v) ∙ earth_enough s.args.table s.args.minute (on_table s) s.args.from s.args.to s.args.v s.requires.known_frame.0 s.requires.known_frame.1)
