@@ -50,7 +50,7 @@ dated r (inl (inr e)) = numbered OutsideInterval r tt e
 dated r (inr e) = eleven e.0 e.1
 
 -- the minute of an answer, zero where there is none
-place_minute : Result (ℤ × Coordinates) Refusal → ℤ
+abbrev place_minute : Result (ℤ × Coordinates) Refusal → ℤ
 place_minute (Ok found) = found.0
 place_minute (Err r) = pos 0
 
