@@ -1,13 +1,13 @@
 -- Fields one after the other, as the writer and the reader go over them: what stands after i fields, and one field more.
 -- What is done already and what is still to come are together the whole, so a field more moves the seam between them.
 use mathlib.Core.List.{List, [], ◌∷◌, ◌++◌, append-nil, append_assoc}
-use mathlib.Core.Path.{◌≡◌, refl, sym, ap, ◌∙◌}
+use mathlib.Core.Path.{◌≡◌, sym, ap, ◌∙◌}
 use Prim.Native.Nat.{ℕ, zero, suc, ◌+◌, ◌-◌, ◌≤◌, ◌<◌}
 use native.Mathlib.Numerals.{add-one}
 use native.Mathlib.Omega.{arith}
 use lib.Dec.{T, leb, leb→le}
 use lib.IntN.{ℤ, pos}
-use lib.ListN.{length, take, drop, get_or, set, length-append, drop_of_length-le, length-drop, length-set}
+use lib.ListN.{length, take, drop, get_or, set, length-append, drop_of_length-le, length-set}
 use lib.Seq.{take_at, drop_at, drop-drop, drop-cons, take_all, take-suc-set, append_snoc}
 use mir.Facts.{and_yes}
 use mir.Syntax.{w64}
@@ -44,9 +44,6 @@ pub record Laid (ks : List ℕ) (zs : List ℤ) (old : List ℕ) (i at : ℕ) (b
   pub is : bytes ≡ front ++ drop at old
   pub left : front ++ bytes_of (drop i ks) (drop i zs) ≡ bytes_of ks zs
 
-pub laid_none : (ks : List ℕ) (zs : List ℤ) (old : List ℕ) → Laid ks zs old 0 0 old
-laid_none ks zs old = record { seam = record { whole = omega arith }; front = []; long = refl; is = refl; left = refl }
-
 module _ {ks : List ℕ} {zs : List ℤ} {old : List ℕ} {i at : ℕ} {bytes : List ℕ} (l : Laid ks zs old i at bytes) where
   pub laid_more : {ys : List ℕ} → i < length ks → length ks ≡ length zs → ys ≡ field_bytes (get_or ks i 0) (get_or zs i (pos 0)) → Laid ks zs old (i + 1) (at + get_or ks i 0) (put_mid at (at + get_or ks i 0 - at) bytes ys)
   unfolding bytes_of
@@ -64,9 +61,6 @@ module _ {ks : List ℕ} {zs : List ℤ} {old : List ℕ} {i at : ℕ} {bytes : 
         left = rw (← l.left, append_assoc, add-one, drop-cons ks i 0 h, drop-cons zs i (pos 0) many);
       }
 
-  pub laid_long : total ks ≤ length old → length bytes ≡ length old
-  laid_long h = ap length l.is ∙ length-append l.front (drop at old) ∙ omega (arith, l.seam.whole, l.long, length-drop at old)
-
   pub laid_all : length ks ≤ i → bytes ≡ bytes_of ks zs ++ drop (total ks) old
   unfolding bytes_of
   laid_all h =
@@ -78,9 +72,6 @@ pub record Picked (ks bytes : List ℕ) (i at : ℕ) (zs : List ℤ) : Type 0 wh
   pub seam : Seam ks i at
   pub many : length ks ≡ length zs
   pub is : take i zs ++ numbers_in (drop i ks) (drop at bytes) ≡ numbers_in ks bytes
-
-pub picked_none : (ks bytes : List ℕ) (zs : List ℤ) → length ks ≡ length zs → Picked ks bytes 0 0 zs
-picked_none ks bytes zs h = record { seam = record { whole = omega arith }; many = h; is = refl }
 
 module _ {ks bytes : List ℕ} {i at : ℕ} {zs : List ℤ} (p : Picked ks bytes i at zs) where
   pub picked_more : {z : ℤ} → i < length ks → z ≡ field_number (take (at + get_or ks i 0 - at) (drop at bytes)) → Picked ks bytes (i + 1) (at + get_or ks i 0) (set zs i z)

@@ -1,33 +1,20 @@
 -- `are_zeros` tells whether all of the numbers are 0.
--- Invariant: the test of those from number i on tells the whole.
-use mathlib.Core.Bool.{Bool, true, false, ◌&&◌}
-use mathlib.Core.Path.{◌≡◌, refl}
-use Prim.Native.Nat.{◌+◌}
-use native.Mathlib.Numerals.{add-one}
-use lib.IntN.{pos}
-use lib.ListN.{drop, get_or, drop_of_length-le}
-use lib.Seq.{drop-cons}
-use Rattle.integers.proofs.Cast.{back_ok}
+-- By what std says of `all`: the closure's test is the definition's, of each number.
+use mathlib.Core.Bool.{Bool, ◌&&◌}
+use mathlib.Core.Path.{◌∙◌, refl}
+use lib.IntN.{ℤ, pos}
+use Rattle.std.proofs.Common.{rules, tests}
+use Rattle.std.specs.List.{list_all}
+use Rattle.std.proofs.lemmas.Iterator.{YieldsList-from_slice}
+use Rattle.std.proofs.lemmas.Iterator.Search.{all_from_yields_List}
+use Rattle.std.proofs.lemmas.List.Recursion.{same_from_clauses}
+use Rattle.integers.specs.Sign.{same}
+use Rattle.integers.proofs.Same.{bits_tell}
 use Rattle.layouts.specs.Layout.{are_zeros}
 use Rattle.layouts.proofs.are_zeros.Goals as goal
-use Rattle.layouts.proofs.are_zeros.Goals.{After-are_same}
-
--- with what the test of number i told, those after it tell the whole
-told : (c : After-are_same) (b : Bool) → c.are_same.result ≡ b → let at = c.before.before.before in b && are_zeros (drop (at.loop-i.i + 1) at.before.args.numbers.now) ≡ are_zeros at.before.args.numbers.now
-told c b e =
-    let t = c.before.before in
-    let l = t.before.loop-i in
-    let numbers = t.before.before.args.numbers.now in
-    rw (← l.invariant, add-one, drop-cons numbers l.i (pos 0) t.loop-i-test.true, ← e, c.are_same.ensures, back_ok (get_or numbers l.i (pos 0)) c.before.are_same-arg-1.given)
 
 pub returns : goal.returns
-returns c = rw (← c.before.loop-i.invariant, drop_of_length-le c.before.before.args.numbers.now {i = c.before.loop-i.i} c.loop-i-test.false)
-
-pub loop-i-init : goal.loop-i-init
-loop-i-init c = refl
-
-pub returns-then-not-are_same : goal.returns-then-not-are_same
-returns-then-not-are_same c = told c.before false (c.if-not-are_same.true)
-
-pub loop-i-preserved : goal.loop-i-preserved
-loop-i-preserved c = told c.before true (c.if-not-are_same.false)
+returns c =
+    let numbers = c.args.numbers.now in
+    all_from_yields_List (λ (z : ℤ). same z (pos 0)) _ _ _ c.all.ensures.ran (YieldsList-from_slice numbers cc) (λ x b q k. search (rules, tests, bits_tell))
+    ∙ same_from_clauses (list_all (λ (z : ℤ). same z (pos 0))) are_zeros (λ (z : ℤ) (b : Bool). same z (pos 0) && b) refl (λ _ _. refl) (λ _ _. refl) numbers
