@@ -9,34 +9,26 @@ use lib.Dec.{leb}
 use lib.ListN.{length, take, length-drop}
 use lib.Seq.{take_all, length-take-le}
 use borrow.Author.Tests.{leb-true, leb-false}
-use Rattle.listing_lines.specs.declared.Digits.{Digits}
-use Rattle.listing_lines.specs.declared.Digits.TheVariants.{Value, NoDigits}
-use Rattle.listing_lines.specs.declared.Number.{Number}
-use Rattle.listing_lines.specs.declared.Number.TheVariants.{Whole, NoNumber}
-use Rattle.listing_lines.specs.declared.Request.TheVariants.{NoRequest}
+use Rattle.std.specs.Prelude.{Option, Some, None, ℤ}
 use Rattle.listing_lines.specs.Request.{is_minus, is_space, digits_if, digits_after, digits_of, with_sign, number_if, whole_of, before_if, space_at, field_of, rest_of, asked_of, request_of}
 
--- a number is There
-abbrev There : Number → Type 0
-There (Whole z) = Unit {0}
-There NoNumber = ⊥
+-- there is a number
+abbrev There : {A : Type 0} → Option A → Type 0
+There (Some n) = Unit {0}
+There None = ⊥
 
-abbrev Given : Digits → Type 0
-Given (Value n) = Unit {0}
-Given NoDigits = ⊥
-
-digits_short : (l : List ℕ) → Given (digits_of l) → length l ≤ 10
+digits_short : (l : List ℕ) → There (digits_of l) → length l ≤ 10
 unfolding digits_of
 digits_short l t = go (leb 1 (length l)) (leb (length l) 10) (leb-true (length l) 10) t
   where
-    go : (p q : Bool) → (q ≡ true → length l ≤ 10) → Given (digits_if (p && q) (digits_after 0 l)) → length l ≤ 10
+    go : (p q : Bool) → (q ≡ true → length l ≤ 10) → There (digits_if (p && q) (digits_after 0 l)) → length l ≤ 10
     go true true f d = f refl
     go true false f d = absurd d
     go false q f d = absurd d
 
-signed_given : (s : Bool) (d : Digits) → There (with_sign s d) → Given d
-signed_given s (Value n) t = tt
-signed_given s NoDigits t = absurd t
+signed_given : (s : Bool) (d : Option ℕ) → There (with_sign s d) → There d
+signed_given s (Some n) t = tt
+signed_given s None t = absurd t
 
 number_short : (l : List ℕ) → There (whole_of l) → length l ≤ 11
 unfolding whole_of
@@ -60,15 +52,15 @@ space_within (b ∷ l) = go (is_space b) (space_within l)
 field_rest : (l : List ℕ) → length l ≤ length (field_of l) + 1 + length (rest_of l)
 field_rest l = omega (arith, length-take-le (space_at l) l (space_within l), length-drop (space_at l + 1) l)
 
-pub long_none : (l : List ℕ) → 35 < length l → request_of l ≡ NoRequest
+pub long_none : (l : List ℕ) → 35 < length l → request_of l ≡ None
 unfolding request_of
 long_none l h = go (whole_of (field_of l)) (whole_of (field_of (rest_of l))) (whole_of (rest_of (rest_of l))) (number_short (field_of l)) (number_short (field_of (rest_of l))) (number_short (rest_of (rest_of l)))
   where
-    go : (a b c : Number) → (There a → length (field_of l) ≤ 11) → (There b → length (field_of (rest_of l)) ≤ 11) → (There c → length (rest_of (rest_of l)) ≤ 11) → asked_of a b c ≡ NoRequest
-    go (Whole x) (Whole y) (Whole z) f g k = absurd (omega (arith, f tt, g tt, k tt, field_rest l, field_rest (rest_of l)))
-    go (Whole x) (Whole y) NoNumber f g k = refl
-    go (Whole x) NoNumber c f g k = refl
-    go NoNumber b c f g k = refl
+    go : (a b c : Option ℤ) → (There a → length (field_of l) ≤ 11) → (There b → length (field_of (rest_of l)) ≤ 11) → (There c → length (rest_of (rest_of l)) ≤ 11) → asked_of a b c ≡ None
+    go (Some x) (Some y) (Some z) f g k = absurd (omega (arith, f tt, g tt, k tt, field_rest l, field_rest (rest_of l)))
+    go (Some x) (Some y) None f g k = refl
+    go (Some x) None c f g k = refl
+    go None b c f g k = refl
 
 pub cut : (l : List ℕ) → request_of (take 36 l) ≡ request_of l
 cut l = go (leb (length l) 36) (leb-true (length l) 36) (leb-false (length l) 36)

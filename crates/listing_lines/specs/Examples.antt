@@ -1,8 +1,7 @@
 -- Document 01's checked example of the listing, "it prints exactly", and requests at the edges of the form, by computation.
-use Rattle.std.specs.Prelude.{List, [], ◌∷◌, ◌≡◌, refl, ℕ, pos, negsuc}
+use Rattle.std.specs.Prelude.{List, [], ◌∷◌, ◌≡◌, refl, ℕ, pos, negsuc, Some, None}
 use Rattle.dates.specs.Moment.{tested, moment_at}
 use Rattle.tables.specs.Table.{interval_of, moment_after}
-use Rattle.listing_lines.specs.declared.Request.TheVariants.{Asked, NoRequest}
 use Rattle.listing_lines.specs.Request.{digits_after, digits_of, whole_of, space_at, request_of}
 use Rattle.listing_lines.specs.Decimal.{decimal_from, decimal_of}
 use Rattle.listing_lines.specs.Line.{text_of}
@@ -39,36 +38,36 @@ unfolding listing_of lines_from text_of decimal_of decimal_from request_of whole
 it_prints_exactly = refl
 
 -- `-0 0000000003 01`
-pub zeros_and_a_minus : request_of (45 ∷ 48 ∷ 32 ∷ 48 ∷ 48 ∷ 48 ∷ 48 ∷ 48 ∷ 48 ∷ 48 ∷ 48 ∷ 48 ∷ 51 ∷ 32 ∷ 48 ∷ 49 ∷ []) ≡ Asked (pos 0) (pos 3) (pos 1)
+pub zeros_and_a_minus : request_of (45 ∷ 48 ∷ 32 ∷ 48 ∷ 48 ∷ 48 ∷ 48 ∷ 48 ∷ 48 ∷ 48 ∷ 48 ∷ 48 ∷ 51 ∷ 32 ∷ 48 ∷ 49 ∷ []) ≡ Some (record { minute = pos 0; body = pos 3; frame = pos 1 })
 unfolding request_of whole_of digits_of digits_after space_at
 zeros_and_a_minus = refl
 
 -- `-9999999999 -1 5`
-pub ten_digits : request_of (45 ∷ 57 ∷ 57 ∷ 57 ∷ 57 ∷ 57 ∷ 57 ∷ 57 ∷ 57 ∷ 57 ∷ 57 ∷ 32 ∷ 45 ∷ 49 ∷ 32 ∷ 53 ∷ []) ≡ Asked (negsuc 9999999998) (negsuc 0) (pos 5)
+pub ten_digits : request_of (45 ∷ 57 ∷ 57 ∷ 57 ∷ 57 ∷ 57 ∷ 57 ∷ 57 ∷ 57 ∷ 57 ∷ 57 ∷ 32 ∷ 45 ∷ 49 ∷ 32 ∷ 53 ∷ []) ≡ Some (record { minute = negsuc 9999999998; body = negsuc 0; frame = pos 5 })
 unfolding request_of whole_of digits_of digits_after space_at
 ten_digits = refl
 
 -- `00000000000 4 1`
-pub eleven_digits : request_of (48 ∷ 48 ∷ 48 ∷ 48 ∷ 48 ∷ 48 ∷ 48 ∷ 48 ∷ 48 ∷ 48 ∷ 48 ∷ 32 ∷ 52 ∷ 32 ∷ 49 ∷ []) ≡ NoRequest
+pub eleven_digits : request_of (48 ∷ 48 ∷ 48 ∷ 48 ∷ 48 ∷ 48 ∷ 48 ∷ 48 ∷ 48 ∷ 48 ∷ 48 ∷ 32 ∷ 52 ∷ 32 ∷ 49 ∷ []) ≡ None
 unfolding request_of whole_of digits_of digits_after space_at
 eleven_digits = refl
 
 -- `0  4 1`
-pub two_spaces : request_of (48 ∷ 32 ∷ 32 ∷ 52 ∷ 32 ∷ 49 ∷ []) ≡ NoRequest
+pub two_spaces : request_of (48 ∷ 32 ∷ 32 ∷ 52 ∷ 32 ∷ 49 ∷ []) ≡ None
 unfolding request_of whole_of digits_of digits_after space_at
 two_spaces = refl
 
 -- `0 4 1` with a space behind it
-pub a_space_behind : request_of (48 ∷ 32 ∷ 52 ∷ 32 ∷ 49 ∷ 32 ∷ []) ≡ NoRequest
+pub a_space_behind : request_of (48 ∷ 32 ∷ 52 ∷ 32 ∷ 49 ∷ 32 ∷ []) ≡ None
 unfolding request_of whole_of digits_of digits_after space_at
 a_space_behind = refl
 
 -- `0 4`
-pub two_numbers : request_of (48 ∷ 32 ∷ 52 ∷ []) ≡ NoRequest
+pub two_numbers : request_of (48 ∷ 32 ∷ 52 ∷ []) ≡ None
 unfolding request_of whole_of digits_of digits_after space_at
 two_numbers = refl
 
 -- `+1 4 1`
-pub a_plus_sign : request_of (43 ∷ 49 ∷ 32 ∷ 52 ∷ 32 ∷ 49 ∷ []) ≡ NoRequest
+pub a_plus_sign : request_of (43 ∷ 49 ∷ 32 ∷ 52 ∷ 32 ∷ 49 ∷ []) ≡ None
 unfolding request_of whole_of digits_of digits_after space_at
 a_plus_sign = refl

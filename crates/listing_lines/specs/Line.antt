@@ -1,5 +1,5 @@
 -- Document 01, the listing program: what it prints for a line of input. "Any other line shows status 9", and a refused one its number.
-use Rattle.std.specs.Prelude.{List, [], ◌∷◌, ◌++◌, ℕ, ℤ, pos}
+use Rattle.std.specs.Prelude.{List, [], ◌∷◌, ◌++◌, ℕ, ℤ, pos, Option, Some, None}
 use Rattle.refusals.specs.declared.Refusal.{Refusal}
 use Rattle.refusals.specs.declared.Refusal.TheVariants.{NoRow}
 use Rattle.refusals.specs.Number.{number_of}
@@ -9,7 +9,6 @@ use Rattle.places.specs.declared.PlaceAnswer.{PlaceAnswer}
 use Rattle.places.specs.declared.PlaceAnswer.TheVariants.{Found, Refused}
 use Rattle.places.specs.Answer.{place_answer}
 use Rattle.listing_lines.specs.declared.Request.{Request}
-use Rattle.listing_lines.specs.declared.Request.TheVariants.{Asked, NoRequest}
 use Rattle.listing_lines.specs.Decimal.{signed_of}
 use Rattle.listing_lines.specs.Request.{request_of}
 
@@ -29,12 +28,12 @@ numbers_of body frame (Refused r) = refused_numbers r
 
 -- the answer to a request, as it is printed: the place on that minute by the table of a call that names none, or refusal 9 where the
 -- line is none
-abbrev pub answer_of : Request → List ℤ
-answer_of (Asked minute body frame) = numbers_of body frame (place_answer (Minutes minute) default_table body frame)
-answer_of NoRequest = refused_numbers NoRow
+abbrev pub answer_of : Option Request → List ℤ
+answer_of (Some r) = numbers_of r.body r.frame (place_answer (Minutes r.minute) default_table r.body r.frame)
+answer_of None = refused_numbers NoRow
 
 -- the printed line, with its line end, of a request, and of a line of input
-abbrev pub line_of : Request → List ℕ
+abbrev pub line_of : Option Request → List ℕ
 line_of request = text_of (answer_of request)
 
 abbrev pub printed_of : List ℕ → List ℕ

@@ -1,9 +1,9 @@
 // The lines of the listing: a line of input read as a request, the answer worked out, and its line printed into lent bytes.
 #![tactic(auto)]
 
-ghost use Rattle.std.specs.Prelude.{◌≡◌, true, [], ◌∷◌, ◌++◌, ◌+◌, ◌-◌, ◌*◌, ◌≤◌, ◌<◌, length, take, drop, set};
+ghost use Rattle.std.specs.Prelude.{◌≡◌, true, [], ◌∷◌, ◌++◌, ◌+◌, ◌-◌, ◌*◌, ◌≤◌, ◌<◌, length, take, drop, set, position};
 ghost use Rattle.angles.specs.Sines.{sine_entries};
-ghost use Rattle.listing_lines.specs.Request.{is_digit, digits_of, whole_of, with_sign, space_at, asked_of, request_of};
+ghost use Rattle.listing_lines.specs.Request.{is_space, digit_of, digits_of, whole_of, with_sign, field_of, rest_of, request_of};
 ghost use Rattle.listing_lines.specs.Decimal.{decimal_of, signed_of};
 ghost use Rattle.listing_lines.specs.Line.{text_of, numbers_of, answer_of, line_of, printed_of};
 ghost use Rattle.listing_lines.specs.Put.{Put};
@@ -14,136 +14,86 @@ use places::PlaceAnswer;
 use refusals::Refusal;
 use tables::DEFAULT_TABLE;
 
-// The number that one to ten digits stand for.
-#[derive(Clone, Copy)]
-pub enum Digits {
-    Value(u64),
-    NoDigits,
+// What a line asks for.
+#[derive(Clone, Copy, Debug, PartialEq, Eq)]
+pub struct Request {
+    pub minute: i64,
+    pub body: i64,
+    pub frame: i64,
 }
 
-// A number of a line, with its sign.
-#[derive(Clone, Copy)]
-pub enum Number {
-    Whole(i64),
-    NoNumber,
-}
-
-// What a line asks for: minute, body and frame.
-#[derive(Clone, Copy)]
-pub enum Request {
-    Asked(i64, i64, i64),
-    NoRequest,
-}
-
-fn is_digit(b: u8) -> bool
-    ensures { result ≡ is_digit b }
+// The number of a digit's byte.
+fn digit(b: u8) -> Option<u64>
+    ensures { result ≡ digit_of b }
 {
-    48 <= b && b <= 57
+    if b.is_ascii_digit() {
+        Some(u64::from(b - b'0'))
+    } else {
+        None
+    }
 }
 
-fn digit(b: u8) -> u64
-    requires { is_digit b ≡ true }
-    ensures { (result ≡ b - 48) × (result ≤ 9) }
-{
-    (b - 48) as u64
-}
-
-// One to ten digits and nothing else.
+// The number that one to ten digits, and nothing else, stand for.
 #[tactic(auto, using(crate::proofs::Scan::none, crate::proofs::Scan::too_many))]
-fn digits_in(text: &[u8]) -> Digits
+fn digits_in(text: &[u8]) -> Option<u64>
     ensures { result ≡ digits_of text.now }
 {
-    if text.len() < 1 {
-        return Digits::NoDigits;
-    }
-    if 10 < text.len() {
-        return Digits::NoDigits;
+    if !(1..=10).contains(&text.len()) {
+        return None;
     }
     let mut n = 0;
-    let mut i = 0;
-    while i < text.len() {
-        let b = text[i];
-        if !is_digit(b) {
-            return Digits::NoDigits;
-        }
-        n = n * 10 + digit(b);
-        i += 1;
+    for &b in text {
+        n = n * 10 + digit(b)?;
     }
-    Digits::Value(n)
+    Some(n)
 }
 
-fn whole(negative: bool, text: &[u8]) -> Number
+fn whole(negative: bool, text: &[u8]) -> Option<i64>
     ensures { result ≡ with_sign negative (digits_of text.now) }
 {
-    match digits_in(text) {
-        Digits::Value(n) => Number::Whole(integers::with_sign(negative, n)),
-        Digits::NoDigits => Number::NoNumber,
-    }
+    let n = digits_in(text)?;
+    Some(integers::with_sign(negative, n))
 }
 
 // Digits, behind a minus sign or without one.
-fn number_in(text: &[u8]) -> Number
+fn number_in(text: &[u8]) -> Option<i64>
     ensures { result ≡ whole_of text.now }
 {
-    if text.len() < 1 {
-        return Number::NoNumber;
+    match text.strip_prefix(b"-") {
+        Some(digits) => whole(true, digits),
+        None => whole(false, text),
     }
-    if text[0] == b'-' {
-        return whole(true, &text[1..]);
-    }
-    whole(false, text)
 }
 
-// How many bytes stand before the first space.
-fn field_end(text: &[u8]) -> usize
-    ensures { (result ≡ space_at text.now) × (result ≤ length text.now) }
+// Where the first space stands.
+fn space_in(text: &[u8]) -> Option<usize>
+    ensures { result ≡ position is_space text.now }
 {
-    let mut i = 0;
-    while i < text.len() {
-        if text[i] == b' ' {
-            return i;
-        }
-        i += 1;
-    }
-    i
+    text.iter().position(|&b| b == b' ')
 }
 
-// What stands behind the byte at `end`.
-fn after(text: &[u8], end: usize) -> &[u8]
-    ensures { result.now ≡ drop (end + 1) text.now }
+// The bytes before the first space, and those behind it: none, where there is no space.
+fn split_field(text: &[u8]) -> (&[u8], &[u8])
+    ensures field { result.0.now ≡ field_of text.now }
+    ensures rest { result.1.now ≡ rest_of text.now }
 {
-    if end < text.len() {
-        return &text[end + 1..];
+    match space_in(text) {
+        Some(end) => (&text[..end], &text[end + 1..]),
+        None => (text, &[]),
     }
-    &text[text.len()..]
-}
-
-fn asked(minute: Number, body: Number, frame: Number) -> Request
-    ensures { result ≡ asked_of minute body frame }
-{
-    let Number::Whole(m) = minute else {
-        return Request::NoRequest;
-    };
-    let Number::Whole(b) = body else {
-        return Request::NoRequest;
-    };
-    let Number::Whole(f) = frame else {
-        return Request::NoRequest;
-    };
-    Request::Asked(m, b, f)
 }
 
 // The request of a line, which comes without its line end.
-pub fn request_in(line: &[u8]) -> Request
+pub fn request_in(line: &[u8]) -> Option<Request>
     ensures { result ≡ request_of line.now }
 {
-    let end = field_end(line);
-    let rest = after(line, end);
-    let next_end = field_end(rest);
-    let minute = number_in(&line[..end]);
-    let body = number_in(&rest[..next_end]);
-    let frame = number_in(after(rest, next_end));
-    asked(minute, body, frame)
+    let (minute, rest) = split_field(line);
+    let (body, frame) = split_field(rest);
+    Some(Request {
+        minute: number_in(minute)?,
+        body: number_in(body)?,
+        frame: number_in(frame)?,
+    })
 }
 
 // One byte at byte `at`, and the byte behind it.
@@ -201,12 +151,10 @@ fn put_numbers(numbers: [i64; 7], bytes: &mut [u8], at: usize) -> usize
     ensures { Put at (text_of numbers) bytes.old bytes.new result × (result ≤ at + 147) }
 {
     let mut next = at;
-    let mut i = 0;
-    while i < 6 {
-        next = put_field(numbers[i], b' ', &mut *bytes, next);
-        i += 1;
+    for &n in &numbers[..6] {
+        next = put_field(n, b' ', bytes, next);
     }
-    put_field(numbers[6], b'\n', &mut *bytes, next)
+    put_field(numbers[6], b'\n', bytes, next)
 }
 
 fn numbers_of(body: i64, frame: i64, answer: PlaceAnswer) -> [i64; 7]
@@ -218,24 +166,28 @@ fn numbers_of(body: i64, frame: i64, answer: PlaceAnswer) -> [i64; 7]
     }
 }
 
-fn answer_to(sines: &[u32; 901], request: Request) -> [i64; 7]
+fn answer_to(sines: &[u32; 901], request: Option<Request>) -> [i64; 7]
     requires { sines.now ≡ sine_entries }
     ensures { result ≡ answer_of request }
 {
     match request {
-        Request::Asked(m, b, f) => {
-            numbers_of(
-                b,
-                f,
-                places::place_after(sines, Date::Minutes(m), DEFAULT_TABLE, 0, b, f),
-            )
+        Some(
+            Request {
+                minute,
+                body,
+                frame,
+            },
+        ) => {
+            let date = Date::Minutes(minute);
+            let answer = places::place_after(sines, date, DEFAULT_TABLE, 0, body, frame);
+            numbers_of(body, frame, answer)
         }
-        Request::NoRequest => [0, 0, 0, refusals::number(Refusal::NoRow), 0, 0, 0],
+        None => [0, 0, 0, refusals::number(Refusal::NoRow), 0, 0, 0],
     }
 }
 
 // The printed line of a request from byte `at` on, at most 147 bytes with its line end, and the byte behind it.
-pub fn put_line(sines: &[u32; 901], request: Request, bytes: &mut [u8], at: usize) -> usize
+pub fn put_line(sines: &[u32; 901], request: Option<Request>, bytes: &mut [u8], at: usize) -> usize
     requires sines_value { sines.now ≡ sine_entries }
     requires at_in_bounds { at + 147 ≤ length bytes.old }
     ensures { Put at (line_of request) bytes.old bytes.new result × (result ≤ at + 147) }
@@ -266,7 +218,7 @@ fn put_held(sines: &[u32; 901], text: &[u8], held: usize, bytes: &mut [u8], at: 
 }
 
 // How much is held of a line that has not ended, and the byte behind what is printed.
-#[derive(Clone, Copy)]
+#[derive(Clone, Copy, Debug, PartialEq, Eq)]
 pub struct Fed {
     pub held: usize,
     pub at: usize,
@@ -289,15 +241,12 @@ pub fn feed(
 {
     let mut n = held;
     let mut next = at;
-    let mut i = 0;
-    while i < part.len() {
-        let b = part[i];
-        i += 1;
+    for &b in part {
         if b == b'\n' {
-            next = put_held(sines, &*text, n, &mut *bytes, next);
+            next = put_held(sines, text, n, bytes, next);
             n = 0;
         } else {
-            n = keep(b, &mut *text, n);
+            n = keep(b, text, n);
         }
     }
     Fed { held: n, at: next }

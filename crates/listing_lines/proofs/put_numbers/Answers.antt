@@ -1,14 +1,14 @@
 -- `put_numbers` leaves seven numbers, a space between two and a line end behind the last.
--- Invariant: the numbers before number i are put, each with a space behind it, in at most 21 bytes each.
+-- Invariant: the numbers before the next are put, each with a space behind it, in at most 21 bytes each.
 use borrow.Author.Rules.{rules}
 use mathlib.Core.List.{List, [], ◌∷◌, ◌++◌}
 use mathlib.Core.Path.{◌≡◌, refl, sym, subst, ◌∙◌}
 use Prim.Native.Nat.{ℕ}
 use native.Mathlib.Omega.{arith}
 use lib.IntN.{ℤ, pos}
-use lib.ListN.{take, get_or}
-use Rattle.integers.proofs.Cast.{read, back}
-use Rattle.integers.proofs.Arrays.{part_fits}
+use lib.ListN.{length, take, get_or, length-take}
+use lib.Seq.{take_all}
+use Rattle.integers.proofs.Cast.{read}
 use Rattle.listing_lines.specs.Decimal.{signed_of}
 use Rattle.listing_lines.specs.Put.{Put}
 use Rattle.listing_lines.proofs.Puts.{put_none, put_then}
@@ -16,37 +16,34 @@ use Rattle.listing_lines.proofs.Texts.{spaced, spaced_more, seven}
 use Rattle.listing_lines.proofs.put_numbers.Goals as goal
 use Rattle.listing_lines.proofs.put_numbers.Goals.{Start}
 
--- each number is what the machine reads back of it, and there are seven
-entry : (s : Start) (i : ℕ) → read (get_or s.args.numbers i (pos 0)) ≡ get_or s.args.numbers i (pos 0)
-entry s i = back (get_or s.args.numbers i (pos 0)) (part_fits s.args.numbers s.well_formed.0.0 s.well_formed.0.1.1 i)
-
-pub loop-i-init : goal.loop-i-init
+pub loop-n-init : goal.loop-n-init
 unfolding spaced
-loop-i-init c = (omega arith, put_none c.args.bytes.now c.args.at (omega (arith, c.requires)), omega arith, refl)
+loop-n-init c = (put_none c.args.bytes.now c.args.at (omega (arith, c.requires)), omega arith, refl)
 
-pub loop-i-preserved : goal.loop-i-preserved
-loop-i-preserved c =
-    let v = c.loop-i.invariant in
-    let i = c.loop-i.i in
-    let l = c.args.numbers in (
-      omega arith,
+pub loop-n-preserved : goal.loop-n-preserved
+loop-n-preserved c =
+    let v = c.loop-n.invariant in
+    let i = c.loop-n.n-index in
+    let l = take 6 c.args.numbers in
+    let e : read (get_or l i (pos 0)) ≡ get_or l i (pos 0) = search rules in (
       subst (λ (t : List ℕ). Put c.args.at t c.args.bytes.now c.put_field-next.new.bytes c.put_field-next.result)
-          (sym (spaced_more l i (omega arith)))
-          (put_then (omega (arith, c.requires)) v.1
-          (subst (λ (z : ℤ). Put c.loop-i.next (signed_of z ++ (32 ∷ [])) c.loop-i.bytes c.put_field-next.new.bytes c.put_field-next.result) (entry (goal.at.loop-i-preserved c).Start i) c.put_field-next.ensures.0)),
-      omega (arith, c.put_field-next.ensures.1, v.2),
-      c.put_field-next.auto.bytes ∙ v.3,
+          (sym (spaced_more l i c.loop-n-test.true))
+          (put_then (omega (arith, c.requires)) v.0
+          (subst (λ (z : ℤ). Put c.loop-n.next (signed_of z ++ (32 ∷ [])) c.loop-n.bytes c.put_field-next.new.bytes c.put_field-next.result) e c.put_field-next.ensures.0)),
+      omega (arith, c.put_field-next.ensures.1, v.1),
+      c.put_field-next.auto.bytes ∙ v.2,
     )
 
 pub returns : goal.returns
 returns c =
-    let v = c.loop-i.invariant in
-    let six : c.loop-i.i ≡ 6 = omega arith in
-    let l = c.args.numbers in (
+    let v = c.loop-n.invariant in
+    let l = c.args.numbers in
+    let long : length l ≡ 7 = search rules in
+    let e : read (get_or l 6 (pos 0)) ≡ get_or l 6 (pos 0) = search rules in (
       subst (λ (t : List ℕ). Put c.args.at t c.args.bytes.now c.put_field.new.bytes c.put_field.result)
-          (sym (seven l (search rules)))
+          (sym (seven l long))
           (put_then (omega (arith, c.requires))
-          (subst (λ (k : ℕ). Put c.args.at (spaced (take k l)) c.args.bytes.now c.loop-i.bytes c.loop-i.next) six v.1)
-          (subst (λ (z : ℤ). Put c.loop-i.next (signed_of z ++ (10 ∷ [])) c.loop-i.bytes c.put_field.new.bytes c.put_field.result) (entry (goal.at.returns c).Start 6) c.put_field.ensures.0)),
-      omega (arith, c.put_field.ensures.1, v.2),
+          (subst (λ (k : List ℤ). Put c.args.at (spaced k) c.args.bytes.now c.loop-n.bytes c.loop-n.next) (take_all c.loop-n.n-index (take 6 l) c.loop-n-test.false) v.0)
+          (subst (λ (z : ℤ). Put c.loop-n.next (signed_of z ++ (10 ∷ [])) c.loop-n.bytes c.put_field.new.bytes c.put_field.result) e c.put_field.ensures.0)),
+      omega (arith, c.put_field.ensures.1, v.1, length-take 6 l),
     )

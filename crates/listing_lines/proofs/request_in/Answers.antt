@@ -1,11 +1,21 @@
 -- `request_in` reads the three fields of a line.
--- Each field ends at a space that was found, and each number is that of its field.
-use mathlib.Core.Path.{ap, ◌∙◌}
-use Rattle.listing_lines.specs.Request.{whole_of}
-use Rattle.listing_lines.proofs.Fields.{by_fields}
+-- Each number is that of its field.
+use Rattle.std.proofs.Common.{rules}
+use Rattle.listing_lines.specs.Request.{request_of}
 use Rattle.listing_lines.proofs.request_in.Goals as goal
 
+pub returns-in_err-number_in : goal.returns-in_err-number_in
+unfolding request_of
+returns-in_err-number_in c = search rules
+
+pub returns-in_err-number_in-2 : goal.returns-in_err-number_in-2
+unfolding request_of
+returns-in_err-number_in-2 c = search rules
+
+pub returns-in_err-number_in-3 : goal.returns-in_err-number_in-3
+unfolding request_of
+returns-in_err-number_in-3 c = search rules
+
 pub returns : goal.returns
-returns c =
-    c.asked.ensures
-    ∙ by_fields c.args.line.now c.after-rest.result.now c.field_end-end.result c.field_end-next_end.result c.number_in-minute.result c.number_in-body.result c.number_in-frame.result c.field_end-end.ensures.0 c.after-rest.ensures c.field_end-next_end.ensures.0 c.number_in-minute.ensures c.number_in-body.ensures (c.number_in-frame.ensures ∙ ap whole_of c.after.ensures)
+unfolding request_of
+returns c = search rules
