@@ -8,7 +8,6 @@ use Prim.Native.Nat.{ℕ, ◌+◌, ◌-◌, ◌^◌, ◌≤◌, ◌<◌}
 use native.Mathlib.Omega.{arith}
 use lib.ListN.{length, take, drop, length-append}
 use lib.Seq.{take_at, length-take-le}
-use Rattle.std.proofs.Math.Seq.{take-add}
 use Rattle.std.specs.declared.option.Option.{Option}
 use Rattle.std.specs.declared.result.Result.{Result}
 use Rattle.std.specs.Prelude.{None, Some, Ok, Err, IfSome, OnOk}
@@ -77,26 +76,19 @@ put_behind {at} {e} {x} {l} {m} h p =
     ∙ ap (take (at + length x)) (sym (append_assoc front x back))
     ∙ take_at (front ++ x) back (at + length x) long
 
--- ---- a part of a block, from byte a on, behind those before it
-module _ (line block : List ℕ) (a e : ℕ) (h : a ≤ e) {held : List ℕ} (same : held ≡ held_after line (take a block)) where
-  part : take e block ≡ take a block ++ take (e - a) (drop a block)
-  part = let sum : e ≡ a + (e - a) = omega arith in ap (λ (n : ℕ). take n block) sum ∙ take-add a (e - a) block
+-- ---- a part of a block behind those before it
+module _ (line done part : List ℕ) {held : List ℕ} (same : held ≡ held_after line done) where
+  pub part_held : held_after held part ≡ held_after line (done ++ part)
+  part_held = ap (λ (l : List ℕ). held_after l part) same ∙ sym (held_append line done part)
 
-  pub part_held : held_after held (take (e - a) (drop a block)) ≡ held_after line (take e block)
-  part_held =
-      ap (λ (l : List ℕ). held_after l (take (e - a) (drop a block))) same
-      ∙ sym (ap (held_after line) part ∙ held_append line (take a block) (take (e - a) (drop a block)))
+  part_printed : printed_after line done ++ printed_after held part ≡ printed_after line (done ++ part)
+  part_printed = ap (λ (l : List ℕ). printed_after line done ++ printed_after l part) same ∙ sym (printed_append line done part)
 
-  part_printed : printed_after line (take a block) ++ printed_after held (take (e - a) (drop a block)) ≡ printed_after line (take e block)
-  part_printed =
-      ap (λ (l : List ℕ). printed_after line (take a block) ++ printed_after l (take (e - a) (drop a block))) same
-      ∙ sym (ap (printed_after line) part ∙ printed_append line (take a block) (take (e - a) (drop a block)))
-
-  pub part_sends : {before mid after : Option (List ℕ)} {ready free left : List ℕ} (r : List ℕ) → Sends before mid (r ++ printed_after line (take a block)) ready → Sends mid after ready free → left ≡ free ++ printed_after held (take (e - a) (drop a block)) → Sends before after (r ++ printed_after line (take e block)) left
+  pub part_sends : {before mid after : Option (List ℕ)} {ready free left : List ℕ} (r : List ℕ) → Sends before mid (r ++ printed_after line done) ready → Sends mid after ready free → left ≡ free ++ printed_after held part → Sends before after (r ++ printed_after line (done ++ part)) left
   part_sends {before} {mid} {after} {ready} {free} {left} r p q put =
-      let x = printed_after held (take (e - a) (drop a block)) in
-      let there : (r ++ printed_after line (take a block)) ++ x ≡ r ++ printed_after line (take e block) =
-      append_assoc r (printed_after line (take a block)) x ∙ ap (λ (l : List ℕ). r ++ l) part_printed in
+      let x = printed_after held part in
+      let there : (r ++ printed_after line done) ++ x ≡ r ++ printed_after line (done ++ part) =
+      append_assoc r (printed_after line done) x ∙ ap (λ (l : List ℕ). r ++ l) part_printed in
       let s = sends_more x (sends_then p q) in
       record { sent = s.sent; written = s.written; all = sym there ∙ s.all ∙ ap (λ (l : List ℕ). s.sent ++ l) (sym put) }
 
@@ -123,22 +115,13 @@ module _ {input rest mid after : Option (List ℕ)} {line held ready left : List
         (ap (λ (l : List ℕ). printed_after [] read ++ printed_after l t.block) same ∙ sym (printed_append [] read t.block))
         (sends_then (sends_more (printed_after line t.block) p) t.sends)
 
-  -- each read that gave bytes was counted
-  pub turn_counted : (turns next : ℕ) → 0 < turns → (more ≡ true → next + 1 ≡ turns) → (more ≡ false → next ≡ 0) → (2 ^ 64 - 1 ≤ turns + length read) ⊎ ((turns ≡ 0) × IsAtEnd input) → (2 ^ 64 - 1 ≤ next + length (read ++ t.block)) ⊎ ((next ≡ 0) × IsAtEnd rest)
-  turn_counted turns next some f g before = go more refl before
-    where
-      go : (m : Bool) → more ≡ m → (2 ^ 64 - 1 ≤ turns + length read) ⊎ ((turns ≡ 0) × IsAtEnd input) → (2 ^ 64 - 1 ≤ next + length (read ++ t.block)) ⊎ ((next ≡ 0) × IsAtEnd rest)
-      go true e (inl l) = inl (omega (arith, l, f e, t.some e, length-append read t.block))
-      go true e (inr z) = absurd (omega (arith, z.0, some))
-      go false e before = inr (g e, t.end e)
-
--- ---- all that was read
-pub all_printed : (start rest before mid after : Option (List ℕ)) (read held ready : List ℕ) (turns : ℕ) → turns ≤ 0 → Consumes start rest read → held ≡ held_after [] read → Sends before mid (printed_after [] read) ready → (2 ^ 64 - 1 ≤ turns + length read) ⊎ ((turns ≡ 0) × IsAtEnd rest) → Appends mid after (ready ++ last_of held) → IfSome start (λ bytes. length bytes < 2 ^ 64 - 1 → Appends before after (lines_from [] bytes))
-all_printed None rest before mid after read held ready turns z p same s count w = tt
-all_printed (Some bytes) None before mid after read held ready turns z p same s count w = absurd p
-all_printed (Some bytes) (Some rest) before mid after read held ready turns z p same s (inl l) w = λ few. absurd (omega (arith, few, l, z, ap length p, length-append read rest))
-all_printed (Some bytes) (Some rest) before mid after read held ready turns z p same s (inr end) w = λ few.
-    let all : bytes ≡ read = p ∙ ap (λ (l : List ℕ). read ++ l) end.1 ∙ append-nil read in
+-- ---- all that was read: to the end, or more than any input that is spoken of
+pub all_printed : (start rest before mid after : Option (List ℕ)) (read held ready : List ℕ) → Consumes start rest read → held ≡ held_after [] read → Sends before mid (printed_after [] read) ready → (2 ^ 64 - 1 ≤ length read) ⊎ IsAtEnd rest → Appends mid after (ready ++ last_of held) → IfSome start (λ bytes. length bytes < 2 ^ 64 - 1 → Appends before after (lines_from [] bytes))
+all_printed None rest before mid after read held ready p same s end w = tt
+all_printed (Some bytes) None before mid after read held ready p same s end w = absurd p
+all_printed (Some bytes) (Some rest) before mid after read held ready p same s (inl l) w = λ few. absurd (omega (arith, few, l, ap length p, length-append read rest))
+all_printed (Some bytes) (Some rest) before mid after read held ready p same s (inr end) w = λ few.
+    let all : bytes ≡ read = p ∙ ap (λ (l : List ℕ). read ++ l) end ∙ append-nil read in
     subst (Appends before after)
     (ap (λ (l : List ℕ). printed_after [] read ++ last_of l) same ∙ sym (ap (lines_from []) all ∙ in_parts [] read))
     (sends_all after (last_of held) s w)

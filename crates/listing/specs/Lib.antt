@@ -1,3 +1,2 @@
--- What the contracts of `listing` cite: where a part of a block ends, and what is read and written.
-pub mod Parts
+-- What the contracts of `listing` cite: what is read and written.
 pub mod Listing
