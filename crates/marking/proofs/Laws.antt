@@ -3,19 +3,19 @@
 use borrow.Author.Tests.{le-leb, lt-leb}
 use mathlib.Core.Bool.{true, false, ◌&&◌}
 use mathlib.Core.List.{List}
-use mathlib.Core.Path.{◌≡◌, refl, subst⁻¹}
-use Prim.Native.Nat.{ℕ, zero, suc, ◌*◌, ◌≤◌, ◌<◌}
+use mathlib.Core.Path.{◌≡◌, subst⁻¹}
+use Prim.Native.Nat.{ℕ, ◌*◌, ◌≤◌, ◌<◌}
 use lib.Dec.{T, leb}
 use lib.IntN.{ℤ, pos, nat_abs}
 use lib.ListN.{length}
 use mir.Facts.{and_yes}
+use Rattle.std.specs.Prelude.{Err}
 use Rattle.integers.specs.First.{first_picked}
 use Rattle.integers.specs.Range.{FromTo, is_from_to}
 use Rattle.integers.proofs.Ranges.{of_test, is_inside}
 use Rattle.integers.proofs.Table.{yes, no}
 use Rattle.refusals.specs.declared.Refusal.TheVariants.{ShortBuffer, BadCount}
 use Rattle.rows.specs.Fields.{row_size}
-use Rattle.marking.specs.declared.MarkAnswer.TheVariants.{Wrong, Refused}
 use Rattle.marking.specs.Wrong.{is_wrong_at}
 use Rattle.marking.specs.Mark.{is_markable, mark_at, mark_if, mark_answer}
 
@@ -40,19 +40,14 @@ module _ (count allowed : ℤ) where
 
   -- ---- the answer
   module _ (bytes : List ℕ) where
-    pub mark_ten : is_markable count allowed ≡ false → mark_answer bytes count allowed ≡ Refused BadCount
+    pub mark_ten : is_markable count allowed ≡ false → mark_answer bytes count allowed ≡ Err BadCount
     unfolding mark_answer
     mark_ten e = λ i. mark_if (e i) (leb (row_size * nat_abs count) (length bytes)) bytes (nat_abs count) (nat_abs allowed)
 
-    pub mark_eight : is_markable count allowed ≡ true → length bytes < row_size * nat_abs count → mark_answer bytes count allowed ≡ Refused ShortBuffer
+    pub mark_eight : is_markable count allowed ≡ true → length bytes < row_size * nat_abs count → mark_answer bytes count allowed ≡ Err ShortBuffer
     unfolding mark_answer
     mark_eight e l = λ i. mark_if (e i) (lt-leb (row_size * nat_abs count) (length bytes) l i) bytes (nat_abs count) (nat_abs allowed)
 
     pub mark_by : is_markable count allowed ≡ true → row_size * nat_abs count ≤ length bytes → mark_answer bytes count allowed ≡ mark_at (first_picked (is_wrong_at (nat_abs allowed) bytes) (nat_abs count))
     unfolding mark_answer
     mark_by e l = λ i. mark_if (e i) (le-leb (row_size * nat_abs count) (length bytes) l i) bytes (nat_abs count) (nat_abs allowed)
-
--- a place that is not 0
-pub wrong_at : (place : ℕ) → (place ≡ 0 → ⊥) → Wrong place ≡ mark_at place
-wrong_at zero n = absurd (n refl)
-wrong_at (suc k) n = refl

@@ -9,6 +9,7 @@ use lib.Dec.{T}
 use lib.IntN.{ℤ, pos, nat_abs, ◌*ℤ◌}
 use lib.ListN.{length, take, drop, take-append-drop}
 use lib.Pow.{are_bytes}
+use Rattle.std.specs.Prelude.{Some, None, Ok}
 use Rattle.integers.proofs.Ring.{abs_itself, abs_none}
 use Rattle.refusals.specs.declared.Refusal.{Refusal}
 use Rattle.refusals.specs.Number.{number_of}
@@ -31,7 +32,6 @@ use Rattle.sheets.specs.Row.{row_for, answer_written, row_written}
 use Rattle.sheets.specs.Sheet.{answer_at, is_sheet, sheet_written}
 use Rattle.sheets.proofs.Laws.{row_by}
 use Rattle.sheets.proofs.Sheets.{a_row_call_leaves_a_row, a_sheet_keeps_the_length, row_k_is_read, FoundAt, no_row_is_refused}
-use Rattle.marking.specs.declared.MarkAnswer.TheVariants.{Good, Wrong}
 use Rattle.marking.specs.Mark.{mark_answer}
 use Rattle.marking.proofs.Laws.{Markable}
 use Rattle.marking.proofs.Rows.{RightRow, WrongRow, refused_one}
@@ -108,10 +108,10 @@ our_own_is_right allowed bytes o =
     what_a_row_call_leaves_is_right allowed (Minutes row.minutes) row.body row.frame bytes bytes room (o.left bytes room ∙ ap (λ (b : List ℕ). (pos 0, b)) (take-append-drop row_size bytes))
 
 module _ (bytes : List ℕ) (count : ℤ) where
-  pub good_at_0_means_our_own_rows : T (are_bytes bytes) → mark_answer bytes count (pos 0) ≡ Good → (k : ℕ) → k < nat_abs count → OurOwn (drop (row_size * k) bytes)
+  pub good_at_0_means_our_own_rows : T (are_bytes bytes) → mark_answer bytes count (pos 0) ≡ Ok None → (k : ℕ) → k < nat_abs count → OurOwn (drop (row_size * k) bytes)
   good_at_0_means_our_own_rows t e k l = right_is_our_own (drop (row_size * k) bytes) (bytes_parts (row_size * k) bytes t).1 ((good_says_that_every_row_is_right bytes count (pos 0) e).1 k l)
 
-  pub our_own_rows_are_good : (allowed : ℤ) → Marked bytes count allowed → ((k : ℕ) → k < nat_abs count → OurOwn (drop (row_size * k) bytes)) → mark_answer bytes count allowed ≡ Good
+  pub our_own_rows_are_good : (allowed : ℤ) → Marked bytes count allowed → ((k : ℕ) → k < nat_abs count → OurOwn (drop (row_size * k) bytes)) → mark_answer bytes count allowed ≡ Ok None
   our_own_rows_are_good allowed m o = good_where_every_row_is_right bytes count allowed m (λ k l. our_own_is_right (nat_abs allowed) (drop (row_size * k) bytes) (o k l))
 
 -- ---- a sheet that the sheet call wrote
@@ -126,12 +126,12 @@ module _ (start : Date) (step count body frame : ℤ) (before : List ℕ) (is : 
   right_at k l f = a_found_answer_is_right (nat_abs allowed) start (step *ℤ pos k) body frame (drop (row_size * k) after) (row_k_is_read start step count body frame before is room k l) f.minute f.place f.is
 
   -- "A sheet that the sheet call wrote without a refused row is good", at any allowance
-  pub a_sheet_without_a_refused_row_is_good : (sheet_written start step count body frame before).0.good ≡ nat_abs count → mark_answer after count allowed ≡ Good
+  pub a_sheet_without_a_refused_row_is_good : (sheet_written start step count body frame before).0.good ≡ nat_abs count → mark_answer after count allowed ≡ Ok None
   a_sheet_without_a_refused_row_is_good e =
       good_where_every_row_is_right after count allowed marked (λ k l. right_at k l (no_row_is_refused start step count body frame before is room e k l))
 
   -- and of one with a refused row the first refused one is named
-  pub the_first_refused_row_is_named : (k : ℕ) (r : Refusal) → k < nat_abs count → answer_at start step body frame k ≡ Refused r → ((j : ℕ) → j < k → FoundAt start step body frame j) → mark_answer after count allowed ≡ Wrong (suc k)
+  pub the_first_refused_row_is_named : (k : ℕ) (r : Refusal) → k < nat_abs count → answer_at start step body frame k ≡ Refused r → ((j : ℕ) → j < k → FoundAt start step body frame j) → mark_answer after count allowed ≡ Ok (Some (suc k))
   the_first_refused_row_is_named k r l e f =
       the_first_wrong_row_is_named after count allowed marked k
       (record {

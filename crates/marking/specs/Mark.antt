@@ -1,13 +1,12 @@
 -- Document 02, Item 5, "Marking pupils' sheets": the answer to a marker's call. "Refusals: 10 for a count not 0 to 400 or a difference outside its
 -- range, then 8 for a slice too short."
-use Rattle.std.specs.Prelude.{Bool, true, false, ◌&&◌, List, ℕ, zero, suc, ◌*◌, leb, ℤ, pos, nat_abs, length}
+use Rattle.std.specs.Prelude.{Bool, true, false, ◌&&◌, List, ℕ, zero, suc, ◌*◌, leb, ℤ, pos, nat_abs, length, Option, Some, None, Result, Ok, Err}
 use Rattle.integers.specs.First.{first_picked}
 use Rattle.integers.specs.Range.{is_from_to}
 use Rattle.refusals.specs.declared.Refusal.TheVariants.{ShortBuffer, BadCount}
 use Rattle.refusals.specs.Number.{number_of}
+use Rattle.refusals.specs.declared.Refusal.{Refusal}
 use Rattle.rows.specs.Fields.{row_size}
-use Rattle.marking.specs.declared.MarkAnswer.{MarkAnswer}
-use Rattle.marking.specs.declared.MarkAnswer.TheVariants.{Good, Wrong, Refused}
 use Rattle.marking.specs.Wrong.{is_wrong_at}
 
 -- "a number of rows up to 400 and an allowed difference from 0 to 1,000,000 units"
@@ -15,26 +14,26 @@ unfoldable pub is_markable : (count allowed : ℤ) → Bool
 is_markable count allowed = is_from_to (pos 0) (pos 400) count && is_from_to (pos 0) (pos 1000000) allowed
 
 -- by the place of the first wrong row, 0 where there is none: "name by its place, counted from 1, the first row"; "say "good" exactly when there is none"
-abbrev pub mark_at : (place : ℕ) → MarkAnswer
-mark_at zero = Good
-mark_at (suc k) = Wrong (suc k)
+abbrev pub mark_at : (place : ℕ) → Result (Option ℕ) Refusal
+mark_at zero = Ok None
+mark_at (suc k) = Ok (Some (suc k))
 
 -- by whether count and difference are in range, and whether the slice has the rows
-abbrev pub mark_if : (is_markable room : Bool) → List ℕ → (count allowed : ℕ) → MarkAnswer
-mark_if false room bytes count allowed = Refused BadCount
-mark_if true false bytes count allowed = Refused ShortBuffer
+abbrev pub mark_if : (is_markable room : Bool) → List ℕ → (count allowed : ℕ) → Result (Option ℕ) Refusal
+mark_if false room bytes count allowed = Err BadCount
+mark_if true false bytes count allowed = Err ShortBuffer
 mark_if true true bytes count allowed = mark_at (first_picked (is_wrong_at allowed bytes) count)
 
-unfoldable pub mark_answer : List ℕ → (count allowed : ℤ) → MarkAnswer
+unfoldable pub mark_answer : List ℕ → (count allowed : ℤ) → Result (Option ℕ) Refusal
 mark_answer bytes count allowed = mark_if (is_markable count allowed) (leb (row_size * nat_abs count) (length bytes)) bytes (nat_abs count) (nat_abs allowed)
 
 -- document 01's number of an answer, 0 where the sheet was marked, and the place of the first wrong row, 0 where there is none
-abbrev pub mark_status : MarkAnswer → ℤ
-mark_status Good = pos 0
-mark_status (Wrong place) = pos 0
-mark_status (Refused r) = number_of r
+abbrev pub mark_status : Result (Option ℕ) Refusal → ℤ
+mark_status (Ok None) = pos 0
+mark_status (Ok (Some place)) = pos 0
+mark_status (Err r) = number_of r
 
-abbrev pub mark_row : MarkAnswer → ℕ
-mark_row Good = 0
-mark_row (Wrong place) = place
-mark_row (Refused r) = 0
+abbrev pub mark_row : Result (Option ℕ) Refusal → ℕ
+mark_row (Ok None) = 0
+mark_row (Ok (Some place)) = place
+mark_row (Err r) = 0

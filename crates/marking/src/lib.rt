@@ -2,7 +2,8 @@
 // is worked out by its own body, frame and minute. One sine table is lent for the whole sheet, and the sheet itself is only read.
 #![tactic(auto)]
 
-ghost use Rattle.std.specs.Prelude.{◌≡◌, ◌*◌, ◌≤◌, length};
+ghost use Rattle.std.specs.Prelude.{◌≡◌, ◌+◌, ◌*◌, ◌≤◌, length};
+ghost use Rattle.std.specs.Option.{MatchOption};
 ghost use Rattle.integers.specs.First.{first_picked};
 ghost use Rattle.angles.specs.Sines.{sine_entries};
 ghost use Rattle.rows.specs.Fields.{row_size};
@@ -15,14 +16,6 @@ use frames::Coordinates;
 use places::PlaceAnswer;
 use refusals::Refusal;
 use rows::{ROW_BYTES, ROW_TABLE, ReadAnswer, Row};
-
-// Every row is right, or the place of the first that is wrong, counted from 1, or the refusal.
-#[derive(Clone, Copy)]
-pub enum MarkAnswer {
-    Good,
-    Wrong(usize),
-    Refused(Refusal),
-}
 
 // Whether two coordinates are further apart than allowed.
 fn is_further(allowed: u64, theirs: i64, ours: i64) -> bool
@@ -59,27 +52,20 @@ fn is_wrong(sines: &[u32; 901], allowed: u64, bytes: &[u8]) -> bool
 {
     match rows::read_row(bytes) {
         ReadAnswer::Found(row) => {
-            !integers::are_same(row.status, 0) || is_off_ours(sines, allowed, row)
+            let is_refused = row.status != 0;
+            is_refused || is_off_ours(sines, allowed, row)
         }
         ReadAnswer::Refused(_) => true,
     }
 }
 
-// The place of the first wrong row, counted from 1, or 0 where there is none.
-fn first_wrong(sines: &[u32; 901], allowed: u64, count: usize, bytes: &[u8]) -> usize
+// The number of the first wrong row, counted from 0, if there is one.
+fn first_wrong(sines: &[u32; 901], allowed: u64, count: usize, bytes: &[u8]) -> Option<usize>
     requires sines_value { sines.now ≡ sine_entries }
     requires count_bound { (count ≤ 400) × (row_size * count ≤ length bytes.now) }
-    ensures { result ≡ first_picked (is_wrong_at allowed bytes.now) count }
+    ensures { MatchOption result (first_picked (is_wrong_at allowed bytes.now) count ≡ 0) (λ k. first_picked (is_wrong_at allowed bytes.now) count ≡ k + 1) }
 {
-    let mut i: usize = 0;
-    while i < count {
-        let at = ROW_BYTES * i;
-        i += 1;
-        if is_wrong(sines, allowed, &bytes[at..]) {
-            return i;
-        }
-    }
-    0
+    (0..count).find(|&k| is_wrong(sines, allowed, &bytes[ROW_BYTES * k..]))
 }
 
 fn is_markable(count: i64, allowed: i64) -> bool
@@ -88,21 +74,17 @@ fn is_markable(count: i64, allowed: i64) -> bool
     integers::is_from_to(0, 400, count) & integers::is_from_to(0, 1_000_000, allowed)
 }
 
-// The first wrong one among `count` rows: refusal 10, then 8.
-pub fn mark(bytes: &[u8], count: i64, allowed: i64) -> MarkAnswer
+// The place of the first wrong row among `count`, counted from 1, if there is one; or the refusal: 10, then 8.
+pub fn mark(bytes: &[u8], count: i64, allowed: i64) -> Result<Option<usize>, Refusal>
     ensures { result ≡ mark_answer bytes.now count allowed }
 {
     if !is_markable(count, allowed) {
-        return MarkAnswer::Refused(Refusal::BadCount);
+        return Err(Refusal::BadCount);
     }
     let n = count as usize;
     if bytes.len() < ROW_BYTES * n {
-        return MarkAnswer::Refused(Refusal::ShortBuffer);
+        return Err(Refusal::ShortBuffer);
     }
     let sines = angles::sines();
-    let place = first_wrong(&sines, allowed as u64, n, bytes);
-    if place == 0 {
-        return MarkAnswer::Good;
-    }
-    MarkAnswer::Wrong(place)
+    Ok(first_wrong(&sines, allowed as u64, n, bytes).map(|k| k + 1))
 }

@@ -1,44 +1,41 @@
--- `first_wrong` finds the place of the first wrong row, or 0.
--- After i rounds none of the first i rows is wrong.
+-- `first_wrong` finds the number of the first wrong row, if there is one.
+-- `find` gives a row that is wrong with none before it wrong, or none at all; the definition counts the same row from 1 (integers, First).
+use borrow.Author.Rules.{rules}
+use borrow.Author.Tests.{tests}
+use mathlib.Core.Bool.{Bool, true, false}
+use mathlib.Core.Path.{◌≡◌, sym, ◌∙◌, ap}
 use mathlib.Core.List.{List}
-use mathlib.Core.Path.{◌≡◌, sym, ap, ◌∙◌}
-use Prim.Native.Nat.{ℕ, ◌-◌, ◌*◌}
-use native.Mathlib.Numerals.{add-one}
+use Prim.Native.Nat.{ℕ, ◌+◌, ◌<◌, ◌≤◌, ◌-◌, ◌*◌}
 use native.Mathlib.Omega.{arith}
-use lib.ListN.{drop, length, length-drop}
+use native.Mathlib.Numerals.{add-one}
+use lib.ListN.{take, drop, length, length-drop}
 use lib.Seq.{take_all}
-use Rattle.integers.proofs.First.{none_more, is_first, is_none}
+use Rattle.std.specs.Prelude.{Option, Some, None}
+use Rattle.std.specs.Option.{MatchOption}
+use Rattle.std.proofs.lemmas.Iterator.{first_from_Range}
+use Rattle.integers.specs.First.{first_picked}
+use Rattle.integers.proofs.First.{is_first, is_none}
 use Rattle.rows.specs.Fields.{row_size}
 use Rattle.rows.specs.Answer.{read_of}
 use Rattle.marking.specs.Wrong.{is_wrong, is_wrong_at}
 use Rattle.marking.proofs.first_wrong.Goals as goal
-use Rattle.marking.proofs.first_wrong.Goals.{After-is_wrong}
 
-pub loop-i-init : goal.loop-i-init
-loop-i-init c = (omega arith, (λ j l. absurd (omega arith)))
+-- the place that the definition gives, of what a search of the first n numbers finds
+module _ (picks : ℕ → Bool) (n : ℕ) where
+  found : (r : Option ℕ) → MatchOption r ((k : ℕ) → 0 ≤ k → k < n → picks k ≡ false) (λ i. (0 ≤ i) × (i < n) × (picks i ≡ true) × ((k : ℕ) → 0 ≤ k → k < i → picks k ≡ false))
+      → MatchOption r (first_picked picks n ≡ 0) (λ k. first_picked picks n ≡ k + 1)
+  found None h = is_none picks n (λ k l. h k (omega arith) l)
+  found (Some i) h = is_first picks n i (record { picked = h.2; none_before = λ k l. h.3 k (omega arith) l }) h.1 ∙ sym (add-one i)
 
--- the part of the bytes that is lent is that from row i on
-told : (c : After-is_wrong) → is_wrong_at c.args.allowed c.args.bytes.now c.loop-i.i ≡ c.is_wrong.result
-told c =
-    let from = row_size * c.loop-i.i in
-    let bytes = c.args.bytes.now in
-    sym (c.is_wrong.ensures ∙ ap (λ (b : List ℕ). is_wrong c.args.allowed (read_of b)) (take_all (length bytes - from) (drop from bytes) (rw length-drop (omega arith))))
-
-pub returns-then-is_wrong : goal.returns-then-is_wrong
-returns-then-is_wrong c =
-    let wrong = (goal.at.returns-then-is_wrong c).After-is_wrong in
-    let i = c.loop-i.i in
-    add-one i
-    ∙ sym (is_first (is_wrong_at c.args.allowed c.args.bytes.now) c.args.count i (record { picked = told wrong ∙ c.if-is_wrong.true; none_before = c.loop-i.invariant.1 }) (omega arith))
-
-pub loop-i-preserved : goal.loop-i-preserved
-loop-i-preserved c =
-    let wrong = (goal.at.loop-i-preserved c).After-is_wrong in
-    let i = c.loop-i.i in
-    let none = none_more (is_wrong_at c.args.allowed c.args.bytes.now) i c.loop-i.invariant.1 (told wrong ∙ c.if-is_wrong.false) in
-    (omega arith, (λ j l. none j (omega arith)))
+-- the part of the bytes that is lent is that from row k on
+told : (allowed : ℕ) (bytes : List ℕ) (k : ℕ) (r : Bool) → r ≡ is_wrong allowed (read_of (take (length bytes - row_size * k) (drop (row_size * k) bytes))) → is_wrong_at allowed bytes k ≡ r
+told allowed bytes k r e =
+    let from = row_size * k in
+    sym (e ∙ ap (λ (b : List ℕ). is_wrong allowed (read_of b)) (take_all (length bytes - from) (drop from bytes) (rw length-drop (omega arith))))
 
 pub returns : goal.returns
 returns c =
-    let v = c.loop-i.invariant in
-    sym (is_none (is_wrong_at c.args.allowed c.args.bytes.now) c.args.count (λ j l. v.1 j (omega arith)))
+    let wrong = is_wrong_at c.args.allowed c.args.bytes.now in
+    found wrong c.args.count c.find.result
+    (first_from_Range _ _ _ _ (λ k. wrong k ≡ true) (λ k. wrong k ≡ false) c.find.ensures.ran
+    (λ k q called. search (rules, tests, told c.args.allowed c.args.bytes.now)) (λ k q called. search (rules, tests, told c.args.allowed c.args.bytes.now)))
