@@ -3,11 +3,12 @@
 // with more terms, need no change below.
 #![tactic(auto)]
 
-ghost use Rattle.std.specs.Prelude.{◌≡◌, ◌≤◌, pos, ◌+ℤ◌, ◌-ℤ◌, ◌*ℤ◌};
+ghost use Rattle.std.specs.Prelude.{◌≡◌, ◌≤◌, pos, ◌+ℤ◌, ◌-ℤ◌, ◌*ℤ◌, Ok, Err, MatchResult};
 ghost use Rattle.integers.specs.Range.{Within};
 ghost use Rattle.integers.specs.Floor.{floor_div, unit_product, end_turn};
 ghost use Rattle.angles.specs.Unit.{millionths, hundred_millionths};
-ghost use Rattle.tables.specs.Table.{Body, table_row, table_terms, OnTable};
+ghost use Rattle.tables.specs.Table.{table_row, table_terms};
+ghost use Rattle.tables.specs.Bodies.{body_number};
 ghost use Rattle.orbits.specs.Elements.{element_in, elements_at, square_term, periodic_terms, extra_of, mean_anomaly_of, mean_at, argument_of};
 ghost use Rattle.orbits.specs.Place.{minor_of, in_plane, coefficients_by, coefficients_of, ecliptic_of, place_of, place_at};
 ghost use Rattle.orbits.specs.Range.{RowFits, TermsFit, AxisFits, ElementsFit, Bounded};
@@ -16,6 +17,7 @@ ghost use Rattle.orbits.specs.Answer.{body_moment, elements_answer, mean_answer}
 use angles::{Angle, Element, Sines};
 use dates::Date;
 use refusals::Refusal;
+use tables::{Body, Moment};
 
 // The six elements of an orbit: semi-major axis in au, eccentricity, and four angles in degrees, each in hundred-millionths.
 #[derive(Clone, Copy, Debug, PartialEq, Eq)]
@@ -253,82 +255,72 @@ pub fn place_of(sines: &Sines, elements: Elements, mean: Angle) -> [i64; 3]
     ecliptic(k, p.x, p.y)
 }
 
-// The elements of a body on a minute of a table's interval.
-pub fn elements_of(table: i64, body: i64, minute: i64) -> Elements
-    requires body { Body body }
-    requires on_table { OnTable table minute }
-    ensures { result ≡ elements_at (table_row table body) minute }
+// The elements of a body at a moment.
+pub fn elements_of(moment: Moment, body: Body) -> Elements
+    ensures { result ≡ elements_at (table_row moment.table (body_number body)) moment.minute }
 {
-    elements_at(tables::row_of(table, body), minute)
+    elements_at(tables::row_of(moment.table, body), moment.minute)
 }
 
-// What a table adds to the mean anomaly of a body on a minute of its interval. Table 1 adds nothing.
-fn extra_at(sines: &Sines, table: i64, body: i64, minute: i64) -> Element
-    requires body { Body body }
-    requires on_table { OnTable table minute }
-    ensures { hundred_millionths result ≡ extra_of (table_terms table body) minute }
+// What the moment's table adds to the mean anomaly of a body. Table 1 adds nothing.
+fn extra_at(sines: &Sines, moment: Moment, body: Body) -> Element
+    ensures { hundred_millionths result ≡ extra_of (table_terms moment.table (body_number body)) moment.minute }
 {
-    if table == 1 {
+    if moment.table == 1 {
         return Element::of_hundred_millionths(0);
     }
-    extra_of(sines, tables::terms_of(table, body), minute)
+    extra_of(sines, tables::terms_of(moment.table, body), moment.minute)
 }
 
 // The same for a caller that has no table of sines: it is built where something is to be added, and only there.
-fn extra_alone(table: i64, body: i64, minute: i64) -> Element
-    requires body { Body body }
-    requires on_table { OnTable table minute }
-    ensures { hundred_millionths result ≡ extra_of (table_terms table body) minute }
+fn extra_alone(moment: Moment, body: Body) -> Element
+    ensures { hundred_millionths result ≡ extra_of (table_terms moment.table (body_number body)) moment.minute }
 {
-    if table == 1 {
+    if moment.table == 1 {
         return Element::of_hundred_millionths(0);
     }
-    extra_at(&Sines::new(), table, body, minute)
+    extra_at(&Sines::new(), moment, body)
 }
 
-// The mean anomaly of a body on a minute of a table's interval.
-fn mean_at(table: i64, body: i64, minute: i64) -> Angle
-    requires body { Body body }
-    requires on_table { OnTable table minute }
-    ensures { millionths result ≡ mean_at (table_row table body) (table_terms table body) minute }
+// The mean anomaly of a body at a moment.
+fn mean_at(moment: Moment, body: Body) -> Angle
+    ensures { millionths result ≡ mean_at (table_row moment.table (body_number body)) (table_terms moment.table (body_number body)) moment.minute }
 {
-    let elements = elements_of(table, body, minute);
-    mean_anomaly_of(elements, extra_alone(table, body, minute))
+    let elements = elements_of(moment, body);
+    mean_anomaly_of(elements, extra_alone(moment, body))
 }
 
-// The place in HAE of J2000 of a body on a minute of a table's interval.
-pub fn place_at(sines: &Sines, table: i64, body: i64, minute: i64) -> [i64; 3]
-    requires body { Body body }
-    requires on_table { OnTable table minute }
-    ensures { result ≡ place_at (table_row table body) (table_terms table body) minute }
+// The place in HAE of J2000 of a body at a moment.
+pub fn place_at(sines: &Sines, moment: Moment, body: Body) -> [i64; 3]
+    ensures { result ≡ place_at (table_row moment.table (body_number body)) (table_terms moment.table (body_number body)) moment.minute }
 {
-    let elements = elements_of(table, body, minute);
-    let extra = extra_at(sines, table, body, minute);
+    let elements = elements_of(moment, body);
+    let extra = extra_at(sines, moment, body);
     place_of(sines, elements, mean_anomaly_of(elements, extra))
 }
 
-// The minute of a date for a body, or refusal 1, 11, 2 or 3, in this order.
-fn body_moment(date: Date, table: i64, body: i64) -> Result<i64, Refusal>
-    ensures { result ≡ body_moment date table body }
+// The moment of a date and the body of a number, or refusal 1, 11, 2 or 3, in this order.
+fn body_moment(date: Date, table: i64, body: i64) -> Result<(Moment, Body), Refusal>
+    ensures { MatchResult result
+        (λ found. (found.0.table ≡ table) × (body_number found.1 ≡ body) × (body_moment date table body ≡ Ok found.0.minute))
+        (λ refusal. body_moment date table body ≡ Err refusal) }
 {
-    let minute = tables::moment_after(date, table, 0)?;
-    if !tables::is_body(body) {
-        return Err(Refusal::NoSuchBody);
-    }
-    Ok(minute)
+    let moment = tables::moment_on(date, table, 0)?;
+    let body = Body::try_from(body)?;
+    Ok((moment, body))
 }
 
 // The six elements of a body on a date.
 pub fn elements_on_date(date: Date, table: i64, body: i64) -> Result<Elements, Refusal>
     ensures { result ≡ elements_answer date table body }
 {
-    Ok(elements_of(table, body, body_moment(date, table, body)?))
+    body_moment(date, table, body).map(|(moment, body)| elements_of(moment, body))
 }
 
 // The mean anomaly of a body on a date, in one turn.
 pub fn mean_anomaly(date: Date, table: i64, body: i64) -> Result<Angle, Refusal>
     ensures { result ≡ mean_answer date table body }
 {
-    let minute = body_moment(date, table, body)?;
-    Ok(mean_at(table, body, minute))
+    let (moment, body) = body_moment(date, table, body)?;
+    Ok(mean_at(moment, body))
 }

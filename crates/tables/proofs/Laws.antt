@@ -109,6 +109,12 @@ covered_read {table} {m} h =
     (known (range_within (interval_of table).first (interval_of table).last m 2630000000 h.covered (first_near table).within (last_near table).within) tt).is
 
 -- so is the table
+pub table_within : {table m : ℤ} → OnTable table m → Within 2 table
+table_within {table} h = range_within (pos 1) (pos 2) table 2 h.known (omega arith) (omega arith)
+
+pub table_read : {table m : ℤ} → OnTable table m → read table ≡ table
+table_read h = (known (table_within h) tt).is
+
 pub on_table_read : {table m : ℤ} → SFits w64 table → OnTable table m → OnTable (read table) (read m)
 on_table_read {table} f h = subst₂ OnTable (sym (back table f)) (sym (covered_read h)) h
 
