@@ -12,6 +12,7 @@ use lib.ListN.{length, take, drop, get_or, length-append}
 use lib.Pow.{are_bytes}
 use lib.Seq.{get_or-append-add}
 use mir.Facts.{and_yes}
+use Rattle.std.specs.Prelude.{Ok, Err}
 use Rattle.integers.specs.Range.{FromTo}
 use Rattle.integers.specs.Sign.{same}
 use Rattle.integers.proofs.Same.{same_eq}
@@ -20,9 +21,7 @@ use Rattle.refusals.specs.declared.Refusal.{Refusal}
 use Rattle.refusals.specs.declared.Refusal.TheVariants.{ShortBuffer, NoRow}
 use Rattle.refusals.specs.Number.{number_of}
 use Rattle.refusals.proofs.Numbers.{number_is}
-use Rattle.rows.specs.declared.ReadAnswer.TheVariants.{Found, Refused}
 use Rattle.rows.specs.declared.Row.{Row}
-use Rattle.rows.specs.declared.Written.TheVariants.{Done, Refused as NotWritten}
 use Rattle.layouts.specs.Bytes.{big_endian}
 use Rattle.layouts.specs.Layout.{bytes_of, numbers_in}
 use Rattle.rows.specs.Fields.{row_size, row_length, row_version, widths1, row_numbers, row_from, bare_row, row_bytes, refused_bytes, is_row, are_row, status_at}
@@ -49,22 +48,22 @@ module _ (row : Row) (counts : Counts row) (is : T (is_row row)) where
   numbers_are rest = numbers_back (row_held row counts is) rest
 
   -- whatever follows
-  pub reading_gives_what_was_written : (rest : List ℕ) → read_of (row_bytes row ++ rest) ≡ Found row
+  pub reading_gives_what_was_written : (rest : List ℕ) → read_of (row_bytes row ++ rest) ≡ Ok row
   unfolding read_of are_row
   reading_gives_what_was_written rest =
       let room = le-leb row_size (length (row_bytes row ++ rest)) (rw length-append (omega (arith, a_row_has_its_size row))) in
       simp (room, numbers_are rest) (ap (λ (b : Bool). found_if b row) (yes (is_row row) is))
 
-  pub a_written_row_is_read : (before : List ℕ) → row_size ≤ length before → read_of (written row before).1 ≡ Found row
+  pub a_written_row_is_read : (before : List ℕ) → row_size ≤ length before → read_of (written row before).1 ≡ Ok row
   unfolding written
   a_written_row_is_read before h = simp (le-leb row_size (length before) h, yes (is_row row) is, reading_gives_what_was_written)
 
 -- ---- writing gives back what was read
-found_is : (b : Bool) (row r : Row) → found_if b row ≡ Found r → T b × (row ≡ r)
+found_is : (b : Bool) (row r : Row) → found_if b row ≡ Ok r → T b × (row ≡ r)
 found_is true row r e = (tt, cc)
 found_is false row r e = let z : ◌≡◌ {A = ℕ} 0 1 = cc in absurd (omega arith)
 
-module _ (bytes : List ℕ) (row : Row) (found : read_of bytes ≡ Found row) where
+module _ (bytes : List ℕ) (row : Row) (found : read_of bytes ≡ Ok row) where
   abbrev numbers : List ℤ
   numbers = numbers_in widths1 bytes
 
@@ -96,30 +95,30 @@ module _ (bytes : List ℕ) (row : Row) (found : read_of bytes ≡ Found row) wh
       rw (← tests.1, ← headed.0, ← headed.1) (bytes_back widths1 bytes t tt what_is_read_has_its_size)
 
   -- into any bytes with room
-  pub writing_gives_what_was_read : T (are_bytes bytes) → (before : List ℕ) → row_size ≤ length before → written row before ≡ (Done, take row_size bytes ++ drop row_size before)
+  pub writing_gives_what_was_read : T (are_bytes bytes) → (before : List ℕ) → row_size ≤ length before → written row before ≡ (Ok tt, take row_size bytes ++ drop row_size before)
   unfolding written
   writing_gives_what_was_read t before h = simp (le-leb row_size (length before) h, yes (is_row row) what_is_read_is_a_row, its_bytes_are_those_read t)
 
 -- ---- refusals
 -- a reader's is 9
-pub a_reader_refuses_by_9 : (bytes : List ℕ) (refusal : Refusal) → read_of bytes ≡ Refused refusal → refusal ≡ NoRow
+pub a_reader_refuses_by_9 : (bytes : List ℕ) (refusal : Refusal) → read_of bytes ≡ Err refusal → refusal ≡ NoRow
 unfolding read_of
 a_reader_refuses_by_9 bytes refusal e = go (leb row_size (length bytes) && are_row (numbers_in widths1 bytes)) e
   where
-    go : (b : Bool) → found_if b (row_from (numbers_in widths1 bytes)) ≡ Refused refusal → refusal ≡ NoRow
+    go : (b : Bool) → found_if b (row_from (numbers_in widths1 bytes)) ≡ Err refusal → refusal ≡ NoRow
     go true e = let z : ◌≡◌ {A = ℕ} 0 1 = cc in absurd (omega arith)
     go false e = cc
 
 -- 8 comes before 9
-pub a_short_buffer_comes_first : (row : Row) (before : List ℕ) → length before < row_size → written row before ≡ (NotWritten ShortBuffer, before)
+pub a_short_buffer_comes_first : (row : Row) (before : List ℕ) → length before < row_size → written row before ≡ (Err ShortBuffer, before)
 unfolding written
 a_short_buffer_comes_first row before h = simp (lt-leb row_size (length before) h)
 
-pub a_refused_writer_touches_nothing : (row : Row) (before : List ℕ) (refusal : Refusal) → (written row before).0 ≡ NotWritten refusal → (written row before).1 ≡ before
+pub a_refused_writer_touches_nothing : (row : Row) (before : List ℕ) (refusal : Refusal) → (written row before).0 ≡ Err refusal → (written row before).1 ≡ before
 unfolding written
 a_refused_writer_touches_nothing row before refusal e = go (leb row_size (length before)) (is_row row) e
   where
-    go : (room is : Bool) → (written_if room is row before).0 ≡ NotWritten refusal → (written_if room is row before).1 ≡ before
+    go : (room is : Bool) → (written_if room is row before).0 ≡ Err refusal → (written_if room is row before).1 ≡ before
     go false is e = refl
     go true false e = refl
     go true true e = let z : ◌≡◌ {A = ℕ} 0 1 = cc in absurd (omega arith)

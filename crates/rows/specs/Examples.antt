@@ -1,10 +1,8 @@
 -- Rows and bytes at the edges, each beside what it comes to, by computation on the definitions.
-use Rattle.std.specs.Prelude.{List, [], ◌∷◌, ◌++◌, map, ◌≡◌, refl, ℕ, ℤ, pos, negsuc, take, replicate}
+use Rattle.std.specs.Prelude.{List, [], ◌∷◌, ◌++◌, map, ◌≡◌, refl, ℕ, ℤ, pos, negsuc, take, replicate, Result, Ok, Err}
+use Rattle.refusals.specs.declared.Refusal.{Refusal}
 use Rattle.refusals.specs.declared.Refusal.TheVariants.{ShortBuffer, NoRow}
-use Rattle.rows.specs.declared.ReadAnswer.{ReadAnswer}
-use Rattle.rows.specs.declared.ReadAnswer.TheVariants.{Found, Refused}
 use Rattle.rows.specs.declared.Row.{Row}
-use Rattle.rows.specs.declared.Written.TheVariants.{Done, Refused as NotWritten}
 use Rattle.tables.specs.Table.{interval_of}
 use Rattle.layouts.specs.Bytes.{big_endian, big_from, field_bytes}
 use Rattle.layouts.specs.Layout.{bytes_of, numbers_in}
@@ -35,37 +33,37 @@ refusal_2_in_bytes = refl
 abbrev pub with_minute : List ℕ → ℤ → List ℕ
 with_minute first minute = first ++ field_bytes 8 minute ++ replicate 24 0
 
-abbrev pub readings : List (List ℕ × ReadAnswer)
+abbrev pub readings : List (List ℕ × Result Row Refusal)
 readings =
     -- a good row, also with bytes after it, but not without its last byte
-    (mars_bytes, Found mars)
-    ∷ (mars_bytes ++ 7 ∷ 7 ∷ [], Found mars)
-    ∷ (take 37 mars_bytes, Refused NoRow)
-    ∷ ([], Refused NoRow)
+    (mars_bytes, Ok mars)
+    ∷ (mars_bytes ++ 7 ∷ 7 ∷ [], Ok mars)
+    ∷ (take 37 mars_bytes, Err NoRow)
+    ∷ ([], Err NoRow)
     -- refused rows of status 1 and 4; 5 is none; nor is one with a byte left in its zeros
-    ∷ (0 ∷ 36 ∷ 1 ∷ 1 ∷ replicate 34 0, Found (bare_row (pos 1)))
-    ∷ (0 ∷ 36 ∷ 1 ∷ 4 ∷ replicate 34 0, Found (bare_row (pos 4)))
-    ∷ (0 ∷ 36 ∷ 1 ∷ 5 ∷ replicate 34 0, Refused NoRow)
-    ∷ (0 ∷ 36 ∷ 1 ∷ 2 ∷ replicate 33 0 ++ 7 ∷ [], Refused NoRow)
-    ∷ (0 ∷ 36 ∷ 1 ∷ 2 ∷ 4 ∷ replicate 33 0, Refused NoRow)
+    ∷ (0 ∷ 36 ∷ 1 ∷ 1 ∷ replicate 34 0, Ok (bare_row (pos 1)))
+    ∷ (0 ∷ 36 ∷ 1 ∷ 4 ∷ replicate 34 0, Ok (bare_row (pos 4)))
+    ∷ (0 ∷ 36 ∷ 1 ∷ 5 ∷ replicate 34 0, Err NoRow)
+    ∷ (0 ∷ 36 ∷ 1 ∷ 2 ∷ replicate 33 0 ++ 7 ∷ [], Err NoRow)
+    ∷ (0 ∷ 36 ∷ 1 ∷ 2 ∷ 4 ∷ replicate 33 0, Err NoRow)
     -- length 38, version 2, and the bytes of the length turned
-    ∷ (with_minute (0 ∷ 38 ∷ 1 ∷ 0 ∷ 4 ∷ 1 ∷ []) (pos 0), Refused NoRow)
-    ∷ (with_minute (0 ∷ 36 ∷ 2 ∷ 0 ∷ 4 ∷ 1 ∷ []) (pos 0), Refused NoRow)
-    ∷ (with_minute (36 ∷ 0 ∷ 1 ∷ 0 ∷ 4 ∷ 1 ∷ []) (pos 0), Refused NoRow)
+    ∷ (with_minute (0 ∷ 38 ∷ 1 ∷ 0 ∷ 4 ∷ 1 ∷ []) (pos 0), Err NoRow)
+    ∷ (with_minute (0 ∷ 36 ∷ 2 ∷ 0 ∷ 4 ∷ 1 ∷ []) (pos 0), Err NoRow)
+    ∷ (with_minute (36 ∷ 0 ∷ 1 ∷ 0 ∷ 4 ∷ 1 ∷ []) (pos 0), Err NoRow)
     -- bodies and frames at the ends of their ranges
-    ∷ (with_minute (0 ∷ 36 ∷ 1 ∷ 0 ∷ 9 ∷ 5 ∷ []) (pos 0), Found (good_row (pos 9) (pos 5) (pos 0) (pos 0) (pos 0) (pos 0)))
-    ∷ (with_minute (0 ∷ 36 ∷ 1 ∷ 0 ∷ 10 ∷ 5 ∷ []) (pos 0), Refused NoRow)
-    ∷ (with_minute (0 ∷ 36 ∷ 1 ∷ 0 ∷ 0 ∷ 5 ∷ []) (pos 0), Refused NoRow)
-    ∷ (with_minute (0 ∷ 36 ∷ 1 ∷ 0 ∷ 9 ∷ 6 ∷ []) (pos 0), Refused NoRow)
-    ∷ (with_minute (0 ∷ 36 ∷ 1 ∷ 0 ∷ 9 ∷ 0 ∷ []) (pos 0), Refused NoRow)
+    ∷ (with_minute (0 ∷ 36 ∷ 1 ∷ 0 ∷ 9 ∷ 5 ∷ []) (pos 0), Ok (good_row (pos 9) (pos 5) (pos 0) (pos 0) (pos 0) (pos 0)))
+    ∷ (with_minute (0 ∷ 36 ∷ 1 ∷ 0 ∷ 10 ∷ 5 ∷ []) (pos 0), Err NoRow)
+    ∷ (with_minute (0 ∷ 36 ∷ 1 ∷ 0 ∷ 0 ∷ 5 ∷ []) (pos 0), Err NoRow)
+    ∷ (with_minute (0 ∷ 36 ∷ 1 ∷ 0 ∷ 9 ∷ 6 ∷ []) (pos 0), Err NoRow)
+    ∷ (with_minute (0 ∷ 36 ∷ 1 ∷ 0 ∷ 9 ∷ 0 ∷ []) (pos 0), Err NoRow)
     -- the interval's two ends
-    ∷ (with_minute (0 ∷ 36 ∷ 1 ∷ 0 ∷ 1 ∷ 1 ∷ []) (pos 26298000), Found (good_row (pos 1) (pos 1) (pos 26298000) (pos 0) (pos 0) (pos 0)))
-    ∷ (with_minute (0 ∷ 36 ∷ 1 ∷ 0 ∷ 1 ∷ 1 ∷ []) (pos 26298001), Refused NoRow)
-    ∷ (with_minute (0 ∷ 36 ∷ 1 ∷ 0 ∷ 1 ∷ 1 ∷ []) (negsuc 105189839), Found (good_row (pos 1) (pos 1) (negsuc 105189839) (pos 0) (pos 0) (pos 0)))
-    ∷ (with_minute (0 ∷ 36 ∷ 1 ∷ 0 ∷ 1 ∷ 1 ∷ []) (negsuc 105189840), Refused NoRow)
+    ∷ (with_minute (0 ∷ 36 ∷ 1 ∷ 0 ∷ 1 ∷ 1 ∷ []) (pos 26298000), Ok (good_row (pos 1) (pos 1) (pos 26298000) (pos 0) (pos 0) (pos 0)))
+    ∷ (with_minute (0 ∷ 36 ∷ 1 ∷ 0 ∷ 1 ∷ 1 ∷ []) (pos 26298001), Err NoRow)
+    ∷ (with_minute (0 ∷ 36 ∷ 1 ∷ 0 ∷ 1 ∷ 1 ∷ []) (negsuc 105189839), Ok (good_row (pos 1) (pos 1) (negsuc 105189839) (pos 0) (pos 0) (pos 0)))
+    ∷ (with_minute (0 ∷ 36 ∷ 1 ∷ 0 ∷ 1 ∷ 1 ∷ []) (negsuc 105189840), Err NoRow)
     ∷ []
 
-pub readings_are : map (λ (e : List ℕ × ReadAnswer). read_of e.0) readings ≡ map (λ (e : List ℕ × ReadAnswer). e.1) readings
+pub readings_are : map (λ (e : List ℕ × Result Row Refusal). read_of e.0) readings ≡ map (λ (e : List ℕ × Result Row Refusal). e.1) readings
 unfolding read_of are_row is_row is_good is_refused interval_of numbers_in big_from big_endian
 readings_are = refl
 
@@ -75,7 +73,7 @@ unfolding read_of
 nothing_read = (refl, refl)
 
 -- 38 bytes are overwritten, and the next stays; 37 are too few, whatever the fields are; fields that are none come second
-pub writings : (written mars (replicate 39 7) ≡ (Done, mars_bytes ++ 7 ∷ [])) × (written (bare_row (pos 0)) (replicate 37 7) ≡ (NotWritten ShortBuffer, replicate 37 7)) × (written (bare_row (pos 0)) (replicate 38 7) ≡ (NotWritten NoRow, replicate 38 7))
+pub writings : (written mars (replicate 39 7) ≡ (Ok tt, mars_bytes ++ 7 ∷ [])) × (written (bare_row (pos 0)) (replicate 37 7) ≡ (Err ShortBuffer, replicate 37 7)) × (written (bare_row (pos 0)) (replicate 38 7) ≡ (Err NoRow, replicate 38 7))
 unfolding written row_bytes is_row is_good is_refused interval_of bytes_of big_endian
 writings = (refl, refl, refl)
 

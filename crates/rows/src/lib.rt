@@ -25,7 +25,7 @@ pub const ROW_TABLE: i64 = 1;
 const WIDTHS: [usize; 9] = [2, 1, 1, 1, 1, 8, 8, 8, 8];
 
 // The fields of a row. A refused row has its number for the status, and zeros for all others.
-#[derive(Clone, Copy)]
+#[derive(Clone, Copy, Debug, Default, PartialEq, Eq)]
 pub struct Row {
     pub status: i64,
     pub body: i64,
@@ -36,20 +36,6 @@ pub struct Row {
     pub x: i64,
     pub y: i64,
     pub z: i64,
-}
-
-// The row that stands in bytes, or refusal 9.
-#[derive(Clone, Copy)]
-pub enum ReadAnswer {
-    Found(Row),
-    Refused(Refusal),
-}
-
-// Whether a row was written: refusal 8 or 9 where it was not.
-#[derive(Clone, Copy)]
-pub enum Written {
-    Done,
-    Refused(Refusal),
 }
 
 // A row's numbers in the order of the layout.
@@ -85,6 +71,7 @@ fn row_from(numbers: [i64; 9]) -> Row
 }
 
 // The row's bytes, whatever its fields are.
+#[tactic(auto, unfolding(crate::specs::Fields::row_bytes))]
 fn put_row(row: Row, bytes: &mut [u8])
     requires { row_size ≤ length bytes.old }
     ensures { bytes.new ≡ row_bytes row ++ drop row_size bytes.old }
@@ -107,62 +94,65 @@ fn is_good(row: Row) -> bool
     ensures { result ≡ is_good row }
 {
     let interval = tables::interval_of(ROW_TABLE);
-    integers::are_same(row.status, 0)
+    (row.status == 0)
         & tables::is_body(row.body)
         & integers::is_from_to(1, 5, row.frame)
         & integers::is_from_to(interval.first, interval.last, row.minutes)
 }
 
 // Status 1 to 4 with nothing but zeros after it.
+#[tactic(auto, unfolding(crate::specs::Fields::is_refused))]
 fn is_refused(row: Row) -> bool
     ensures { result ≡ is_refused row }
 {
     let numbers = row_numbers(row);
-    integers::is_from_to(1, 4, row.status) & layouts::are_zeros(&numbers[3..])
+    integers::is_from_to(1, 4, row.status) && layouts::are_zeros(&numbers[3..])
 }
 
 // Whether a reader takes these fields.
+#[tactic(auto, unfolding(crate::specs::Fields::is_row))]
 fn is_row(row: Row) -> bool
     ensures { result ≡ is_row row }
 {
-    is_good(row) | is_refused(row)
+    is_good(row) || is_refused(row)
 }
 
 // Whether a reader takes these numbers.
+#[tactic(auto, unfolding(crate::specs::Fields::are_row))]
 fn are_row(numbers: [i64; 9]) -> bool
     ensures { result ≡ are_row numbers }
 {
-    integers::are_same(numbers[0], LENGTH)
-        & integers::are_same(numbers[1], VERSION)
-        & is_row(row_from(numbers))
+    numbers[0] == LENGTH && numbers[1] == VERSION && is_row(row_from(numbers))
 }
 
 // The row in the first ROW_BYTES bytes, or refusal 9.
-pub fn read_row(bytes: &[u8]) -> ReadAnswer
+#[tactic(auto, unfolding(crate::specs::Answer::read_of))]
+pub fn read_row(bytes: &[u8]) -> Result<Row, Refusal>
     ensures { result ≡ read_of bytes.now }
 {
     if bytes.len() < ROW_BYTES {
-        return ReadAnswer::Refused(Refusal::NoRow);
+        return Err(Refusal::NoRow);
     }
     let numbers = numbers_in_row(bytes);
     if !are_row(numbers) {
-        return ReadAnswer::Refused(Refusal::NoRow);
+        return Err(Refusal::NoRow);
     }
-    ReadAnswer::Found(row_from(numbers))
+    Ok(row_from(numbers))
 }
 
 // The row of these fields into the first ROW_BYTES bytes. Refusal 8 comes before 9, and either leaves all bytes as they were.
-pub fn write_row(row: Row, bytes: &mut [u8]) -> Written
+#[tactic(auto, unfolding(crate::specs::Answer::written))]
+pub fn write_row(row: Row, bytes: &mut [u8]) -> Result<(), Refusal>
     ensures { (result, bytes.new) ≡ written row bytes.old }
 {
     if bytes.len() < ROW_BYTES {
-        return Written::Refused(Refusal::ShortBuffer);
+        return Err(Refusal::ShortBuffer);
     }
     if !is_row(row) {
-        return Written::Refused(Refusal::NoRow);
+        return Err(Refusal::NoRow);
     }
     put_row(row, bytes);
-    Written::Done
+    Ok(())
 }
 
 // A row of status 0 into bytes that have room for it. Its fields are not tested again.
@@ -183,18 +173,14 @@ pub fn put_good(body: i64, frame: i64, minutes: i64, x: i64, y: i64, z: i64, byt
 }
 
 // A refused row into bytes that have room for it: no byte of what stood there is left.
+
 pub fn put_refused(refusal: Refusal, bytes: &mut [u8])
     requires { row_size ≤ length bytes.old }
     ensures { bytes.new ≡ refused_bytes (number_of refusal) ++ drop row_size bytes.old }
 {
     let row = Row {
         status: refusals::number(refusal),
-        body: 0,
-        frame: 0,
-        minutes: 0,
-        x: 0,
-        y: 0,
-        z: 0,
+        ..Row::default()
     };
     put_row(row, bytes);
 }

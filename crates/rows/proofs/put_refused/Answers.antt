@@ -7,5 +7,15 @@ use Rattle.rows.proofs.put_refused.Goals as goal
 
 pub returns : goal.returns
 returns c =
-    let told = c.before.before.before.before in
-    simp (c.before.before.put_row.ensures, back_ok told.number.result told.number.type_inv ∙ told.number.ensures, a_refused_row_is_a_row_of_zeros)
+    let zeros = c.default.ensures in
+    simp (
+      c.put_row.ensures,
+      back_ok c.number.result c.number.type_inv ∙ c.number.ensures,
+      zeros.1.0,
+      zeros.1.1.0,
+      zeros.1.1.1.0,
+      zeros.1.1.1.1.0,
+      zeros.1.1.1.1.1.0,
+      zeros.1.1.1.1.1.1,
+      a_refused_row_is_a_row_of_zeros,
+    )
