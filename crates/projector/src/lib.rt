@@ -6,7 +6,7 @@ ghost use Rattle.integers.specs.Range.{Within};
 ghost use Rattle.projector.specs.Au.{CountsExact, au, in_au, nowhere};
 
 // A place in au.
-#[derive(Clone, Copy)]
+#[derive(Clone, Copy, Debug, Default, PartialEq)]
 pub struct PlaceInAu {
     pub x: f64,
     pub y: f64,
@@ -37,9 +37,5 @@ pub fn in_au(x: i64, y: i64, z: i64) -> PlaceInAu
 pub fn nowhere() -> PlaceInAu
     ensures { result ≡ nowhere }
 {
-    PlaceInAu {
-        x: 0.0,
-        y: 0.0,
-        z: 0.0,
-    }
+    PlaceInAu::default()
 }

@@ -17,6 +17,7 @@ pub fn dot(a: [i64; 3], v: [i64; 3]) -> i64
 }
 
 // A vector turned by the rows of m.
+#[tactic(auto, unfolding(crate::specs::Vector::applied))]
 pub fn applied(m: [[i64; 3]; 3], v: [i64; 3]) -> [i64; 3]
     requires { TurnFits m v }
     ensures { result ≡ applied m v }
@@ -47,10 +48,7 @@ pub fn transposed(m: [[i64; 3]; 3]) -> [[i64; 3]; 3]
 pub fn way(m: [[i64; 3]; 3], back: bool) -> [[i64; 3]; 3]
     ensures { result ≡ way_of back m }
 {
-    if back {
-        return transposed(m);
-    }
-    m
+    if back { transposed(m) } else { m }
 }
 
 // The square of a part. Three of them add up to less than 2^64, though not to less than 2^63.
@@ -62,6 +60,7 @@ fn square(z: i64) -> u64
 }
 
 // L, the whole root of the sum of squares.
+#[tactic(auto, unfolding(crate::specs::Vector::length_of))]
 pub fn length(v: [i64; 3]) -> u64
     requires { PartsWithin 2000000000 v }
     ensures value { result ≡ length_of v }
@@ -93,6 +92,7 @@ pub fn over_length(l: u64, v: [i64; 3]) -> [i64; 3]
 }
 
 // The unit vector of v.
+#[tactic(auto, unfolding(crate::specs::Vector::unit_of))]
 pub fn unit(v: [i64; 3]) -> [i64; 3]
     requires { PartsWithin 2000000000 v }
     ensures { result ≡ unit_of v }
@@ -111,6 +111,7 @@ fn cross_part(a: [i64; 3], b: [i64; 3], i: usize, j: usize) -> i64
 }
 
 // The cross product of two vectors of which 10^9 stands for one.
+#[tactic(auto, unfolding(crate::specs::Vector::cross_of))]
 pub fn cross(a: [i64; 3], b: [i64; 3]) -> [i64; 3]
     requires parts_within { PartsWithin 1000000000 a }
     requires parts_within_2 { PartsWithin 1000000000 b }
