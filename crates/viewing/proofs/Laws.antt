@@ -2,7 +2,7 @@
 -- A step is not negative, so that each date lies between the first and the last.
 use mathlib.Core.Bool.{Bool, true, false, not, ◌&&◌}
 use mathlib.Core.Path.{◌≡◌, refl, sym, ap, subst, subst⁻¹, ◌∙◌}
-use Prim.Native.Nat.{ℕ, zero, suc, ◌-◌, ◌<◌}
+use Prim.Native.Nat.{ℕ, ◌<◌}
 use native.Mathlib.Omega.{arith}
 use lib.Dec.{T}
 use lib.IntN.{ℤ, pos, negsuc, nat_abs, ◌+ℤ◌, ◌-ℤ◌, ◌*ℤ◌, +ℤ_idr}
@@ -21,10 +21,9 @@ use Rattle.dates.specs.declared.Moment.TheVariants.{Accepted, Refused as Refused
 use Rattle.dates.specs.Moment.{is_step}
 use Rattle.tables.specs.Table.{Body, is_body, OnTable, interval_of, moment_after}
 use Rattle.tables.proofs.Laws.{first_near, last_near, after_inside, after_is}
-use Rattle.viewing.specs.declared.ViewingAnswer.TheVariants.{Found}
 use Rattle.viewing.specs.Hit.{minute_at}
 use Rattle.viewing.specs.Span.{SpanFits}
-use Rattle.viewing.specs.Viewing.{is_search, is_planet, span_of, span_moment, found_at}
+use Rattle.viewing.specs.Viewing.{is_search, is_planet, span_of, span_moment}
 
 -- ---- a planet to look for
 pub record Planet (body : ℤ) : Type 0 where
@@ -43,11 +42,6 @@ is_planet_lem body p = λ i. is_inside (pos 1) (pos 9) body p.known i && not (sa
 
 pub no_planet : (body : ℤ) → (Planet body → ⊥) → is_planet body ≡ false
 no_planet body n = no (is_planet body) (λ t. n (planet_of body (yes (is_planet body) t)))
-
--- a place that was found
-pub found_by : (first step : ℤ) (count place : ℕ) → (place ≡ 0 → ⊥) → Found (minute_at first step (place - 1)) place ≡ found_at first step count place
-found_by first step count zero n = absurd (n refl)
-found_by first step count (suc k) n = let e : suc k - 1 ≡ k = omega arith in ap (λ (j : ℕ). Found (minute_at first step j) (suc k)) e
 
 -- ---- a step and a count that are taken
 pub record Taken (step count : ℤ) : Type 0 where

@@ -5,6 +5,7 @@ use mathlib.Core.Logic.{◌⊎◌, inl, inr}
 use mathlib.Core.Path.{◌≡◌, refl, sym, ap, subst, ◌∙◌}
 use Prim.Native.Nat.{ℕ, suc, ◌<◌}
 use lib.IntN.{ℤ, pos, nat_abs, ◌+ℤ◌, ◌-ℤ◌, ◌*ℤ◌, +ℤ_idr}
+use Rattle.std.specs.Prelude.{Ok, Err}
 use Rattle.integers.specs.First.{IsFirst, first_picked}
 use Rattle.integers.proofs.First.{NoneBelow, FirstBelow, either, is_none, is_first}
 use Rattle.integers.proofs.Ranges.{inside_of, outside_of}
@@ -20,10 +21,9 @@ use Rattle.dates.specs.Moment.{Covers, covers, tested}
 use Rattle.dates.proofs.Laws.{inside, outside}
 use Rattle.tables.specs.Table.{KnownTable, is_table, interval_of, moment_after}
 use Rattle.tables.proofs.Laws.{after_not_finite, after_eleven, after_tested}
-use Rattle.viewing.specs.declared.ViewingAnswer.{ViewingAnswer}
-use Rattle.viewing.specs.declared.ViewingAnswer.TheVariants.{Found, Refused}
+use Rattle.viewing.specs.declared.Search.{Search}
 use Rattle.viewing.specs.Hit.{minute_at, is_hit}
-use Rattle.viewing.specs.Viewing.{is_search, is_planet, span_of, span_moment, found_at, viewing_if, viewing_by, viewing_answer}
+use Rattle.viewing.specs.Viewing.{is_search, is_planet, span_of, span_moment, ended, found_at, viewing_if, viewing_by, viewing_answer}
 use Rattle.viewing.proofs.Laws.{Taken, taken, is_search_lem, no_search, Planet, planet_of, is_planet_lem, no_planet}
 
 module _ (start : Date) (table step : ℤ) where
@@ -44,17 +44,17 @@ module _ (start : Date) (table step : ℤ) where
     pub planet : Planet body
 
   -- ---- what may become of a call, in the order of 02, and what it is told
-  pub data Outcome (count body : ℤ) : ViewingAnswer → Type 0 where
-    ten : (Taken step count → ⊥) → Outcome count body (Refused BadCount 0)
-    one : Taken step count → minute_of start ≡ NotFinite → Outcome count body (Refused DateNotFinite 0)
-    eleven : (first : ℤ) → Taken step count → minute_of start ≡ At first → (KnownTable table → ⊥) → Outcome count body (Refused NoSuchTable 0)
-    two : (first : ℤ) → Dated count first → (InSpan count first → ⊥) → Outcome count body (Refused OutsideInterval 0)
-    three : (first : ℤ) → Dated count first → InSpan count first → (Planet body → ⊥) → Outcome count body (Refused NoSuchBody 0)
-    twelve : (first : ℤ) → Searched count body first → NoneBelow (is_hit table body first step) (nat_abs count) → Outcome count body (Refused NoSuchDate (nat_abs count))
-    hit : (first : ℤ) (k : ℕ) → Searched count body first → IsFirst (is_hit table body first step) k → k < nat_abs count → Outcome count body (Found (minute_at first step k) (suc k))
+  pub data Outcome (count body : ℤ) : Search → Type 0 where
+    ten : (Taken step count → ⊥) → Outcome count body (ended (Err BadCount) 0)
+    one : Taken step count → minute_of start ≡ NotFinite → Outcome count body (ended (Err DateNotFinite) 0)
+    eleven : (first : ℤ) → Taken step count → minute_of start ≡ At first → (KnownTable table → ⊥) → Outcome count body (ended (Err NoSuchTable) 0)
+    two : (first : ℤ) → Dated count first → (InSpan count first → ⊥) → Outcome count body (ended (Err OutsideInterval) 0)
+    three : (first : ℤ) → Dated count first → InSpan count first → (Planet body → ⊥) → Outcome count body (ended (Err NoSuchBody) 0)
+    twelve : (first : ℤ) → Searched count body first → NoneBelow (is_hit table body first step) (nat_abs count) → Outcome count body (ended (Err NoSuchDate) (nat_abs count))
+    hit : (first : ℤ) (k : ℕ) → Searched count body first → IsFirst (is_hit table body first step) k → k < nat_abs count → Outcome count body (ended (Ok (minute_at first step k)) (suc k))
 
   module _ (count body : ℤ) where
-    abbrev answer : ViewingAnswer
+    abbrev answer : Search
     answer = viewing_answer start table step count body
 
     -- ---- the answer by what its tests told
@@ -99,7 +99,7 @@ module _ (start : Date) (table step : ℤ) where
     on_search first s = on_span first s.dated s.in_span (is_planet_lem body s.planet)
 
     -- ---- an outcome is the answer
-    pub an_outcome_is_the_answer : (a : ViewingAnswer) → Outcome count body a → answer ≡ a
+    pub an_outcome_is_the_answer : (a : Search) → Outcome count body a → answer ≡ a
     an_outcome_is_the_answer a (ten n) = by (no_search step count n) refl
     an_outcome_is_the_answer a (one t e) = by (is_search_lem step count t) (by_moments (after_not_finite start table (pos 0) e) refl)
     an_outcome_is_the_answer a (eleven first t e n) = by (is_search_lem step count t) (by_moments (after_eleven start table (pos 0) first e n) refl)
@@ -109,7 +109,7 @@ module _ (start : Date) (table step : ℤ) where
     an_outcome_is_the_answer a (hit first k s f l) = on_search first s ∙ ap (found_at first step (nat_abs count)) (is_first (is_hit table body first step) (nat_abs count) k f l)
 
     -- ---- and every call has one
-    settled : {a : ViewingAnswer} → Outcome count body a → Outcome count body answer
+    settled : {a : Search} → Outcome count body a → Outcome count body answer
     settled {a} o = subst (Outcome count body) (sym (an_outcome_is_the_answer a o)) o
 
     pub every_call_has_an_outcome : Outcome count body answer

@@ -1,9 +1,10 @@
 -- Document 02, Item 3, "Viewing nights": the answer to a search. "The answer carries the date and how many dates were looked at"; refusals 10,
 -- 1, 11, 2, 3 and 12 in that order.
-use Rattle.std.specs.Prelude.{Bool, true, false, not, ◌&&◌, ℕ, zero, suc, ℤ, pos, nat_abs, ◌-ℤ◌, ◌*ℤ◌}
+use Rattle.std.specs.Prelude.{Bool, true, false, not, ◌&&◌, ℕ, zero, suc, ℤ, pos, nat_abs, ◌-ℤ◌, ◌*ℤ◌, Result, Ok, Err}
 use Rattle.integers.specs.First.{first_picked}
 use Rattle.integers.specs.Range.{is_from_to}
 use Rattle.integers.specs.Sign.{same}
+use Rattle.refusals.specs.declared.Refusal.{Refusal}
 use Rattle.refusals.specs.declared.Refusal.TheVariants.{NoSuchBody, BadCount, NoSuchDate}
 use Rattle.refusals.specs.Number.{number_of}
 use Rattle.dates.specs.declared.Date.{Date}
@@ -11,8 +12,7 @@ use Rattle.dates.specs.declared.Moment.{Moment}
 use Rattle.dates.specs.declared.Moment.TheVariants.{Accepted, Refused as RefusedDate}
 use Rattle.dates.specs.Moment.{is_step}
 use Rattle.tables.specs.Table.{is_body, moment_after}
-use Rattle.viewing.specs.declared.ViewingAnswer.{ViewingAnswer}
-use Rattle.viewing.specs.declared.ViewingAnswer.TheVariants.{Found, Refused}
+use Rattle.viewing.specs.declared.Search.{Search}
 use Rattle.viewing.specs.Hit.{minute_at, is_hit}
 
 -- "10 for a bad step or count": "a step as for sheets and a count of 1 to 4,000 dates"
@@ -33,38 +33,48 @@ span_moment start table step count = span_of (moment_after start table (pos 0)) 
 unfoldable pub is_planet : ℤ → Bool
 is_planet body = is_body body && not (same body (pos 3))
 
+-- a search that ended with this date or this refusal, after so many dates were looked at
+abbrev pub ended : (found : Result ℤ Refusal) → (looked : ℕ) → Search
+ended found looked = record { looked = looked; found = found }
+
 -- by the place of the first hit, 0 where there is none: "the place of the hit counted from 1, or the whole count when there is none"; "12, no
 -- such date in the span, last"
-abbrev pub found_at : (first step : ℤ) → (count place : ℕ) → ViewingAnswer
-found_at first step count zero = Refused NoSuchDate count
-found_at first step count (suc k) = Found (minute_at first step k) (suc k)
+abbrev pub found_at : (first step : ℤ) → (count place : ℕ) → Search
+found_at first step count zero = ended (Err NoSuchDate) count
+found_at first step count (suc k) = ended (Ok (minute_at first step k)) (suc k)
 
 -- on a span that is accepted
-abbrev pub viewing_if : (is_planet : Bool) → (table body first step : ℤ) → ℕ → ViewingAnswer
-viewing_if false table body first step count = Refused NoSuchBody 0
+abbrev pub viewing_if : (is_planet : Bool) → (table body first step : ℤ) → ℕ → Search
+viewing_if false table body first step count = ended (Err NoSuchBody) 0
 viewing_if true table body first step count = found_at first step count (first_picked (is_hit table body first step) count)
 
-abbrev pub viewing_on : Moment → (table body step : ℤ) → ℕ → ViewingAnswer
-viewing_on (RefusedDate r) table body step count = Refused r 0
+abbrev pub viewing_on : Moment → (table body step : ℤ) → ℕ → Search
+viewing_on (RefusedDate r) table body step count = ended (Err r) 0
 viewing_on (Accepted first) table body step count = viewing_if (is_planet body) table body first step count
 
-abbrev pub viewing_by : (is_search : Bool) → Moment → (table body step : ℤ) → ℕ → ViewingAnswer
-viewing_by false span table body step count = Refused BadCount 0
+abbrev pub viewing_by : (is_search : Bool) → Moment → (table body step : ℤ) → ℕ → Search
+viewing_by false span table body step count = ended (Err BadCount) 0
 viewing_by true span table body step count = viewing_on span table body step count
 
 -- the answer to a start, a table, a step, a count and a body
-unfoldable pub viewing_answer : Date → (table step count body : ℤ) → ViewingAnswer
+unfoldable pub viewing_answer : Date → (table step count body : ℤ) → Search
 viewing_answer start table step count body = viewing_by (is_search step count) (span_moment start table step count) table body step (nat_abs count)
 
--- the number of an answer, its minute and how many dates were looked at: "A refusal's date is 0, and but for 12 so is the number looked at"
-abbrev pub viewing_status : ViewingAnswer → ℤ
-viewing_status (Found m looked) = pos 0
-viewing_status (Refused r looked) = number_of r
+-- the number of what a search ended with, and its minute: "A refusal's date is 0"
+abbrev pub found_status : Result ℤ Refusal → ℤ
+found_status (Ok m) = pos 0
+found_status (Err r) = number_of r
 
-abbrev pub viewing_minute : ViewingAnswer → ℤ
-viewing_minute (Found m looked) = m
-viewing_minute (Refused r looked) = pos 0
+abbrev pub found_minute : Result ℤ Refusal → ℤ
+found_minute (Ok m) = m
+found_minute (Err r) = pos 0
 
-abbrev pub viewing_looked : ViewingAnswer → ℕ
-viewing_looked (Found m looked) = looked
-viewing_looked (Refused r looked) = looked
+-- the number of an answer, its minute and how many dates were looked at: 0 with a refusal, "but for 12"
+abbrev pub viewing_status : Search → ℤ
+viewing_status s = found_status s.found
+
+abbrev pub viewing_minute : Search → ℤ
+viewing_minute s = found_minute s.found
+
+abbrev pub viewing_looked : Search → ℕ
+viewing_looked s = s.looked

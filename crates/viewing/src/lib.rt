@@ -2,7 +2,8 @@
 // whole walk, and each date's places are worked out once.
 #![tactic(auto)]
 
-ghost use Rattle.std.specs.Prelude.{◌≡◌, ◌≤◌};
+ghost use Rattle.std.specs.Prelude.{◌≡◌, ◌+◌, ◌≤◌, Err};
+ghost use Rattle.std.specs.Option.{MatchOption};
 ghost use Rattle.integers.specs.First.{first_picked};
 ghost use Rattle.integers.specs.Range.{Within};
 ghost use Rattle.integers.specs.Sign.{opposite_signs};
@@ -11,23 +12,23 @@ ghost use Rattle.angles.specs.Sines.{sine_entries};
 ghost use Rattle.tables.specs.Table.{Body, OnTable};
 ghost use Rattle.viewing.specs.Hit.{plane_dot, plane_cross, aspect_at, hit_if, minute_at, is_hit};
 ghost use Rattle.viewing.specs.Span.{SpanFits};
-ghost use Rattle.viewing.specs.Viewing.{is_search, span_moment, is_planet, viewing_if, viewing_answer};
+ghost use Rattle.viewing.specs.Viewing.{is_search, span_moment, is_planet, ended, viewing_if, viewing_answer};
 
 use dates::{Date, Moment};
 use refusals::Refusal;
 
 // How a planet and the Earth stand to each other, seen from the Sun in the plane of HAE: the dot and the cross product of x and y.
-#[derive(Clone, Copy)]
+#[derive(Clone, Copy, Debug, PartialEq, Eq)]
 pub struct Aspect {
     pub dot: i64,
     pub cross: i64,
 }
 
-// The minute of the date, or the refusal; and how many dates were looked at.
+// How many dates were looked at; and the minute of the hit, or the refusal.
 #[derive(Clone, Copy)]
-pub enum ViewingAnswer {
-    Found(i64, usize),
-    Refused(Refusal, usize),
+pub struct Search {
+    pub looked: usize,
+    pub found: Result<i64, Refusal>,
 }
 
 // The dot product of two places in the plane of HAE.
@@ -78,25 +79,29 @@ fn is_hit(before: i64, aspect: Aspect) -> bool
     (0 < aspect.dot) & ((cross == 0) | integers::opposite_signs(cross, before))
 }
 
-// The place of the first hit, counted from 1, or 0 where there is none. Before the first date stands a cross product of 0, which is
-// opposite to nothing.
-fn search(sines: &[u32; 901], table: i64, body: i64, first: i64, step: i64, count: usize) -> usize
+// How many dates pass before the first hit, if there is one. Before the first date stands a cross product of 0, which is opposite to nothing.
+fn first_hit(
+    sines: &[u32; 901],
+    table: i64,
+    body: i64,
+    first: i64,
+    step: i64,
+    count: usize,
+) -> Option<usize>
     requires sines_value { sines.now ≡ sine_entries }
     requires body { Body body }
     requires span_fits { SpanFits table first step count }
-    ensures { result ≡ first_picked (is_hit table body first step) count }
+    ensures { MatchOption result (first_picked (is_hit table body first step) count ≡ 0) (λ k. first_picked (is_hit table body first step) count ≡ k + 1) }
 {
-    let mut before: i64 = 0;
-    let mut i: usize = 0;
-    while i < count {
-        let aspect = aspect_at(sines, table, body, minute_at(first, step, i));
-        i += 1;
+    let mut before = 0;
+    for k in 0..count {
+        let aspect = aspect_at(sines, table, body, minute_at(first, step, k));
         if is_hit(before, aspect) {
-            return i;
+            return Some(k);
         }
         before = aspect.cross;
     }
-    0
+    None
 }
 
 fn is_search(step: i64, count: i64) -> bool
@@ -109,7 +114,7 @@ fn is_search(step: i64, count: i64) -> bool
 fn is_planet(body: i64) -> bool
     ensures { result ≡ is_planet body }
 {
-    tables::is_body(body) & !integers::are_same(body, 3)
+    tables::is_body(body) & (body != 3)
 }
 
 // The moment of the span's first date, if its last one is accepted too: refusals 1, 11 and 2.
@@ -127,32 +132,46 @@ fn span_moment(start: Date, table: i64, step: i64, count: i64) -> Moment
     }
 }
 
+// A search that is refused before any date is looked at.
+fn none_looked_at(refusal: Refusal) -> Search
+    ensures { result ≡ ended (Err refusal) 0 }
+{
+    Search {
+        looked: 0,
+        found: Err(refusal),
+    }
+}
+
 // The answer on a span that is accepted: refusal 3, then 12.
-fn viewing_from(table: i64, first: i64, step: i64, count: usize, body: i64) -> ViewingAnswer
+fn viewing_from(table: i64, first: i64, step: i64, count: usize, body: i64) -> Search
     requires { SpanFits table first step count }
     ensures { result ≡ viewing_if (is_planet body) table body first step count }
 {
     if !is_planet(body) {
-        return ViewingAnswer::Refused(Refusal::NoSuchBody, 0);
+        return none_looked_at(Refusal::NoSuchBody);
     }
     let sines = angles::sines();
-    let looked = search(&sines, table, body, first, step, count);
-    if looked == 0 {
-        return ViewingAnswer::Refused(Refusal::NoSuchDate, count);
+    match first_hit(&sines, table, body, first, step, count) {
+        Some(passed) => Search {
+            looked: passed + 1,
+            found: Ok(minute_at(first, step, passed)),
+        },
+        None => Search {
+            looked: count,
+            found: Err(Refusal::NoSuchDate),
+        },
     }
-    let passed = looked - 1;
-    ViewingAnswer::Found(minute_at(first, step, passed), looked)
 }
 
 // The next opposition or inferior conjunction among `count` dates from the start on: refusals 10, 1, 11, 2, 3 and 12 in order.
-pub fn viewing(start: Date, table: i64, step: i64, count: i64, body: i64) -> ViewingAnswer
+pub fn viewing(start: Date, table: i64, step: i64, count: i64, body: i64) -> Search
     ensures { result ≡ viewing_answer start table step count body }
 {
     if !is_search(step, count) {
-        return ViewingAnswer::Refused(Refusal::BadCount, 0);
+        return none_looked_at(Refusal::BadCount);
     }
     match span_moment(start, table, step, count) {
-        Moment::Refused(refusal) => ViewingAnswer::Refused(refusal, 0),
+        Moment::Refused(refusal) => none_looked_at(refusal),
         Moment::Accepted(first) => viewing_from(table, first, step, count as usize, body),
     }
 }

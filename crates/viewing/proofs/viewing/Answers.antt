@@ -27,7 +27,7 @@ module _ (s : Start) where
   by e f = sym (λ i. viewing_by (e i) (f i) (read s.args.table) (read s.args.body) (read s.args.step) (nat_abs (read s.args.count))) ∙ as_read
 
 pub returns-then-not-is_search : goal.returns-then-not-is_search
-returns-then-not-is_search c = by (goal.at.returns-then-not-is_search c).Start (sym c.is_search.ensures ∙ c.if-not-is_search.true) refl
+returns-then-not-is_search c = c.none_looked_at.ensures ∙ by (goal.at.returns-then-not-is_search c).Start (sym c.is_search.ensures ∙ c.if-not-is_search.true) refl
 
 is : (c : Else-not-is_search) → is_search (read c.args.step) (read c.args.count) ≡ true
 is c = sym c.is_search.ensures ∙ c.if-not-is_search.false
@@ -39,7 +39,7 @@ pub span_moment-requires : goal.span_moment-requires
 span_moment-requires c = let t = within (goal.at.span_moment-requires c).Else-not-is_search in (step_within t, count_within t)
 
 pub returns-in-Refused : goal.returns-in-Refused
-returns-in-Refused c = by (goal.at.returns-in-Refused c).Start (is (goal.at.returns-in-Refused c).Else-not-is_search) (sym c.in-Refused.ensures)
+returns-in-Refused c = c.none_looked_at-in-Refused.ensures ∙ by (goal.at.returns-in-Refused c).Start (is (goal.at.returns-in-Refused c).Else-not-is_search) (sym c.in-Refused.ensures)
 
 minute_is : (c : In-Accepted) → read c.in-Accepted.first ≡ c.in-Accepted.first
 minute_is c = search rules

@@ -1,8 +1,8 @@
--- `search` finds the place of the first hit, or 0.
--- After i rounds none of the first i dates is a hit, and `before` is the cross product of the last of them.
+-- `first_hit` finds how many dates pass before the first hit, if there is one.
+-- None of the first k dates is a hit, and `before` is the cross product of the last of them.
 use borrow.Author.Rules.{rules}
 use mathlib.Core.Bool.{Bool}
-use mathlib.Core.Path.{◌≡◌, refl, sym, ap, subst⁻¹, subst₂, ◌∙◌}
+use mathlib.Core.Path.{◌≡◌, sym, ap, subst⁻¹, subst₂, ◌∙◌}
 use Prim.Native.Nat.{ℕ}
 use native.Mathlib.Numerals.{add-one}
 use native.Mathlib.Omega.{arith}
@@ -15,8 +15,8 @@ use Rattle.tables.specs.Table.{Body, OnTable}
 use Rattle.viewing.specs.declared.Aspect.{Aspect}
 use Rattle.viewing.specs.Hit.{aspect_at, hit_if, minute_at, is_hit}
 use Rattle.viewing.proofs.Hits.{cross_before, hit_by}
-use Rattle.viewing.proofs.search.Goals as goal
-use Rattle.viewing.proofs.search.Goals.{After-is_hit, Start}
+use Rattle.viewing.proofs.first_hit.Goals as goal
+use Rattle.viewing.proofs.first_hit.Goals.{After-is_hit, Start}
 
 module _ (s : Start) where
   table_is : read s.args.table ≡ s.args.table
@@ -38,9 +38,6 @@ module _ (s : Start) where
   found : first_picked hits s.args.count ≡ first_picked (is_hit s.args.table s.args.body s.args.first s.args.step) s.args.count
   found = λ i. first_picked (is_hit (table_is i) (body_is i) (first_is i) (step_is i)) s.args.count
 
-pub loop-i-init : goal.loop-i-init
-loop-i-init c = (omega arith, (λ j l. absurd (omega arith)), refl)
-
 pub minute_at-requires : goal.minute_at-requires
 minute_at-requires c =
     let f = c.requires.span_fits in
@@ -49,42 +46,45 @@ minute_at-requires c =
 pub aspect_at-aspect-requires : goal.aspect_at-aspect-requires
 aspect_at-aspect-requires c =
     let s = (goal.at.aspect_at-aspect-requires c).Start in
-    let i = c.loop-i.i in
-    let is = back_ok c.minute_at.result c.minute_at.type_inv ∙ c.minute_at.ensures ∙ (λ j. minute_at (first_is s j) (step_is s j) i) in
-    record { sines_value = c.requires.sines_value; body = subst⁻¹ Body (body_is s) c.requires.body; on_table = subst₂ OnTable (sym (table_is s)) (sym is) (c.requires.span_fits.each i (omega arith)) }
+    let k = c.loop-k.k in
+    let is = back_ok c.minute_at.result c.minute_at.type_inv ∙ c.minute_at.ensures ∙ (λ j. minute_at (first_is s j) (step_is s j) k) in
+    record { sines_value = c.requires.sines_value; body = subst⁻¹ Body (body_is s) c.requires.body; on_table = subst₂ OnTable (sym (table_is s)) (sym is) (c.requires.span_fits.each k (omega arith)) }
 
-aspect_is : (c : After-is_hit) → c.aspect_at-aspect.result ≡ aspect_at (read c.args.table) (read c.args.body) (minute_at (read c.args.first) (read c.args.step) c.loop-i.i)
+aspect_is : (c : After-is_hit) → c.aspect_at-aspect.result ≡ aspect_at (read c.args.table) (read c.args.body) (minute_at (read c.args.first) (read c.args.step) c.loop-k.k)
 aspect_is c =
     c.aspect_at-aspect.ensures ∙ ap (aspect_at (read c.args.table) (read c.args.body)) (back_ok c.minute_at.result c.minute_at.type_inv ∙ c.minute_at.ensures)
 
--- the test of date i is the definition's
-told : (c : After-is_hit) → is_hit (read c.args.table) (read c.args.body) (read c.args.first) (read c.args.step) c.loop-i.i ≡ c.is_hit.result
+-- the test of date k is the definition's
+told : (c : After-is_hit) → is_hit (read c.args.table) (read c.args.body) (read c.args.first) (read c.args.step) c.loop-k.k ≡ c.is_hit.result
 told c =
     let a = aspect_is c in
-    sym (c.is_hit.ensures ∙ (λ j. hit_if (opposite_signs (a j).cross (c.loop-i.invariant.2 j)) (a j)) ∙ hit_by (read c.args.table) (read c.args.body) (read c.args.first) (read c.args.step) c.loop-i.i)
+    sym (c.is_hit.ensures ∙ (λ j. hit_if (opposite_signs (a j).cross (c.loop-k.invariant.cross_is j)) (a j)) ∙ hit_by (read c.args.table) (read c.args.body) (read c.args.first) (read c.args.step) c.loop-k.k)
 
 pub returns-then-is_hit : goal.returns-then-is_hit
 returns-then-is_hit c =
     let s = (goal.at.returns-then-is_hit c).Start in
     let hit = (goal.at.returns-then-is_hit c).After-is_hit in
-    let i = c.loop-i.i in
-    add-one i
-    ∙ sym (is_first (hits s) c.args.count i (record { picked = told hit ∙ c.if-is_hit.true; none_before = c.loop-i.invariant.1 }) (omega arith))
-    ∙ found s
+    let k = c.loop-k.k in
+    sym (found s)
+    ∙ is_first (hits s) c.args.count k (record { picked = told hit ∙ c.if-is_hit.true; none_before = c.loop-k.invariant.none_before }) (omega arith)
+    ∙ sym (add-one k)
 
 cross_is : (c : After-is_hit) → read c.aspect_at-aspect.result.cross ≡ c.aspect_at-aspect.result.cross
 cross_is c = search rules
 
-pub loop-i-preserved : goal.loop-i-preserved
-loop-i-preserved c =
-    let s = (goal.at.loop-i-preserved c).Start in
-    let hit = (goal.at.loop-i-preserved c).After-is_hit in
-    let i = c.loop-i.i in
-    let none = none_more (hits s) i c.loop-i.invariant.1 (told hit ∙ c.if-is_hit.false) in
+pub loop-k-preserved : goal.loop-k-preserved
+loop-k-preserved c =
+    let s = (goal.at.loop-k-preserved c).Start in
+    let hit = (goal.at.loop-k-preserved c).After-is_hit in
+    let k = c.loop-k.k in
+    let none = none_more (hits s) k c.loop-k.invariant.none_before (told hit ∙ c.if-is_hit.false) in
     let cross = cross_is hit ∙ ap (λ (a : Aspect). a.cross) (aspect_is hit) in
-    (omega arith, (λ j l. none j (omega arith)), cross ∙ ap (cross_before (read c.args.table) (read c.args.body) (read c.args.first) (read c.args.step)) (sym (add-one i)))
+    record {
+      none_before = λ j l. none j (omega arith);
+      cross_is = cross ∙ ap (cross_before (read c.args.table) (read c.args.body) (read c.args.first) (read c.args.step)) (sym (add-one k));
+    }
 
 pub returns : goal.returns
 returns c =
     let s = (goal.at.returns c).Start in
-    sym (is_none (hits s) c.args.count (λ j l. c.loop-i.invariant.1 j (omega arith))) ∙ found s
+    sym (found s) ∙ is_none (hits s) c.args.count (λ j l. c.loop-k.invariant.none_before j (omega arith))
