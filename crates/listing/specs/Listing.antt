@@ -1,7 +1,6 @@
 -- What the program reads and writes, of a reader's and a writer's bytes where those are known.
-use Rattle.std.specs.Prelude.{◌≡◌, ℕ, ◌<◌, Bool, true, false, List, ◌++◌, length, Option, Some, None}
+use Rattle.std.specs.Prelude.{◌≡◌, ℕ, ◌<◌, Bool, true, false, List, ◌++◌, length, Option}
 use Rattle.std.specs.Io.KnownBytes.{Appends, Consumes, IsAtEnd}
-use Rattle.listing_lines.specs.declared.Fed.{Fed}
 use Rattle.listing_lines.specs.Stream.{held_after, printed_after}
 
 -- of bytes that were ready the first are written, in their order, and the others are ready still
@@ -19,12 +18,3 @@ pub record IsTurn (input rest before after : Option (List ℕ)) (line held ready
   pub sends : Sends before after (ready ++ printed_after line block) left
   pub some : more ≡ true → 0 < length block
   pub end : more ≡ false → IsAtEnd rest
-
--- how much is held, and how much is ready, after a read: what was, where the input has ended
-abbrev pub held_then : ℕ → Option Fed → ℕ
-held_then held None = held
-held_then held (Some fed) = fed.held
-
-abbrev pub at_then : ℕ → Option Fed → ℕ
-at_then at None = at
-at_then at (Some fed) = fed.at

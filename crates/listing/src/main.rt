@@ -1,30 +1,51 @@
 // The listing program: lines of minute, body and frame from standard input, and the answer to each on a line of standard output.
 // What a line asks for and what is printed are the library's; here are the reads, the writes and the buffers. The only errors are those
-// of a read or a write, which end the program: of what was ready then, any part may have gone out, and lent buffers keep their lengths.
+// of a read or a write, which end the program: of what was ready then, any part may have gone out.
 #![tactic(auto)]
 
-ghost use Rattle.std.specs.Prelude.{◌≡◌, [], ◌++◌, ◌-◌, ◌^◌, ◌≤◌, ◌<◌, length, take, IfOk, OnOk, IfSome, is_some};
+ghost use Rattle.std.specs.Prelude.{◌≡◌, [], ◌++◌, ◌-◌, ◌^◌, ◌≤◌, ◌<◌, length, take, IfOk, OnOk, IfSome};
 ghost use Rattle.std.specs.Io.KnownBytes.{Appends};
 ghost use Rattle.angles.specs.Sines.{sine_entries};
-ghost use Rattle.listing.specs.Listing.{Sends, IsTurn, held_then, at_then};
+ghost use Rattle.listing.specs.Listing.{Sends, IsTurn};
+ghost use Rattle.listing_lines.specs.Held.{held_of};
 ghost use Rattle.listing_lines.specs.Stream.{last_of, lines_from, listing_of, held_after, printed_after};
 
-use listing_lines::Fed;
+use listing_lines::HeldLine;
 use std::io;
 use std::io::{Read, Write};
 
-// The input goes to the library in parts of 256 bytes. A byte prints at most 147, so a part prints at most 37,632 of the 65,536
-// that there is room for: what is ready goes out where it is more than 27,904.
-fn flushed<W: Write>(output: &mut W, out: &[u8], at: usize) -> io::Result<usize>
-    requires { (at ≤ 65536) × (length out.now ≡ 65536) }
-    ensures few { IfOk result (λ n. n ≤ 27904) }
-    ensures sent { IfOk result (λ n. Sends (W.contents output.old) (W.contents output.new) (take at out.now) (take n out.now)) }
-{
-    if at <= 27_904 {
-        return Ok(at);
+// The bytes that are ready to go out, the first `len`, and room for more behind them.
+#[derive(Drop)]
+struct Ready {
+    bytes: [u8; 65536],
+    len: usize,
+    ghost few: { len ≤ 65536 },
+    ghost room: { length bytes ≡ 65536 },
+}
+
+impl Ready {
+    fn new() -> Ready
+        ensures { result.len ≡ 0 }
+    {
+        Ready {
+            bytes: [0; 65536],
+            len: 0,
+        }
     }
-    output.write_all(&out[..at])?;
-    Ok(0)
+
+    // The input goes to the library in parts of 256 bytes. A byte prints at most 147, so a part prints at most 37,632 of the 65,536
+    // that there is room for: what is ready goes out where it is more than 27,904.
+    fn make_room<W: Write>(&mut self, output: &mut W) -> io::Result<()>
+        ensures few { IfOk result (λ _. self.new.len ≤ 27904) }
+        ensures sent { OnOk result (Sends (W.contents output.old) (W.contents output.new)
+            (take self.old.len self.old.bytes) (take self.new.len self.new.bytes)) }
+    {
+        if 27_904 < self.len {
+            output.write_all(&self.bytes[..self.len])?;
+            self.len = 0;
+        }
+        Ok(())
+    }
 }
 
 // A block of the input, part by part.
@@ -32,99 +53,74 @@ fn take_block<W: Write>(
     output: &mut W,
     sines: &[u32; 901],
     block: &[u8],
-    text: &mut [u8],
-    held: usize,
-    out: &mut [u8],
-    at: usize,
-) -> io::Result<Fed>
-    requires sines_value { sines.now ≡ sine_entries }
-    requires held_bound { (held ≤ 36) × (length text.old ≡ 36) }
-    requires at_bound { (at ≤ 65536) × (length out.old ≡ 65536) }
-    ensures bounds { IfOk result (λ fed. (fed.held ≤ 36) × (fed.at ≤ 65536)) }
-    ensures held { IfOk result (λ fed. take fed.held text.new ≡ held_after (take held text.old) block.now) }
-    ensures sent { IfOk result (λ fed. Sends (W.contents output.old) (W.contents output.new)
-        (take at out.old ++ printed_after (take held text.old) block.now) (take fed.at out.new)) }
-    ensures kept { (length text.new ≡ length text.old) × (length out.new ≡ length out.old) }
+    held: &mut HeldLine,
+    ready: &mut Ready,
+) -> io::Result<()>
+    requires { sines.now ≡ sine_entries }
+    ensures held { OnOk result (held_of held.new ≡ held_after (held_of held.old) block.now) }
+    ensures sent { OnOk result (Sends (W.contents output.old) (W.contents output.new)
+        (take ready.old.len ready.old.bytes ++ printed_after (held_of held.old) block.now) (take ready.new.len ready.new.bytes)) }
 {
-    let mut fed = Fed { held, at };
     for part in block.chunks(256) {
-        let free = flushed(output, out, fed.at)?;
-        fed = listing_lines::feed(sines, part, text, fed.held, out, free);
+        ready.make_room(output)?;
+        ready.len = listing_lines::feed(sines, part, held, &mut ready.bytes, ready.len);
     }
-    Ok(fed)
+    Ok(())
 }
 
-// One read, and what is held and ready after it; none, where the input has ended.
+// One read, and whether more input may come.
 fn read_some<R: Read, W: Write>(
     input: &mut R,
     output: &mut W,
     sines: &[u32; 901],
-    text: &mut [u8],
-    held: usize,
-    out: &mut [u8],
-    at: usize,
-) -> io::Result<Option<Fed>>
-    requires sines_value { sines.now ≡ sine_entries }
-    requires held_bound { (held ≤ 36) × (length text.old ≡ 36) }
-    requires at_bound { (at ≤ 65536) × (length out.old ≡ 65536) }
-    ensures bounds { IfOk result (λ fed. IfSome fed (λ f. (f.held ≤ 36) × (f.at ≤ 65536))) }
-    ensures turn { IfOk result (λ fed. IsTurn (R.remaining input.old) (R.remaining input.new)
-        (W.contents output.old) (W.contents output.new)
-        (take held text.old) (take (held_then held fed) text.new) (take at out.old) (take (at_then at fed) out.new) (is_some fed)) }
-    ensures kept { (length text.new ≡ length text.old) × (length out.new ≡ length out.old) }
+    held: &mut HeldLine,
+    ready: &mut Ready,
+) -> io::Result<bool>
+    requires { sines.now ≡ sine_entries }
+    ensures { IfOk result (λ more. IsTurn (R.remaining input.old) (R.remaining input.new)
+        (W.contents output.old) (W.contents output.new) (held_of held.old) (held_of held.new)
+        (take ready.old.len ready.old.bytes) (take ready.new.len ready.new.bytes) more) }
 {
     let mut block = [0u8; 4096];
     let n = input.read(&mut block)?;
     if n == 0 {
-        return Ok(None);
+        return Ok(false);
     }
-    let fed = take_block(output, sines, &block[..n], text, held, out, at)?;
-    Ok(Some(fed))
+    take_block(output, sines, &block[..n], held, ready)?;
+    Ok(true)
 }
 
 // The last line, where no line end follows it, and all that is still to go out.
 fn finish<W: Write>(
     output: &mut W,
     sines: &[u32; 901],
-    text: &[u8],
-    held: usize,
-    out: &mut [u8],
-    at: usize,
+    held: &HeldLine,
+    ready: &mut Ready,
 ) -> io::Result<()>
-    requires sines_value { sines.now ≡ sine_entries }
-    requires held_bound { (held ≤ 36) × (length text.now ≡ 36) }
-    requires at_bound { (at ≤ 65536) × (length out.old ≡ 65536) }
-    ensures sent { OnOk result (Appends (W.contents output.old) (W.contents output.new) (take at out.old ++ last_of (take held text.now))) }
-    ensures kept { length out.new ≡ length out.old }
+    requires { sines.now ≡ sine_entries }
+    ensures { OnOk result (Appends (W.contents output.old) (W.contents output.new)
+        (take ready.old.len ready.old.bytes ++ last_of (held_of held.now))) }
 {
-    let free = flushed(output, out, at)?;
-    let end = listing_lines::put_last(sines, text, held, out, free);
-    output.write_all(&out[..end])
+    ready.make_room(output)?;
+    let end = listing_lines::put_last(sines, held, &mut ready.bytes, ready.len);
+    output.write_all(&ready.bytes[..end])
 }
 
 // All of the input, shorter than the count of reads: where no read and no write fails, its lines are printed.
-fn run<R: Read, W: Write>(
-    input: &mut R,
-    output: &mut W,
-    sines: &[u32; 901],
-    text: &mut [u8],
-    out: &mut [u8],
-) -> io::Result<()>
-    requires sines_value { sines.now ≡ sine_entries }
-    requires text_len { (length text.old ≡ 36) × (length out.old ≡ 65536) }
-    ensures listed { OnOk result (IfSome (R.remaining input.old) (λ bytes. length bytes < 2 ^ 64 - 1 →
+fn run<R: Read, W: Write>(input: &mut R, output: &mut W, sines: &[u32; 901]) -> io::Result<()>
+    requires { sines.now ≡ sine_entries }
+    ensures { OnOk result (IfSome (R.remaining input.old) (λ bytes. length bytes < 2 ^ 64 - 1 →
         Appends (W.contents output.old) (W.contents output.new) (lines_from [] bytes))) }
-    ensures kept { (length text.new ≡ length text.old) × (length out.new ≡ length out.old) }
 {
-    let mut fed = Fed { held: 0, at: 0 };
+    let mut held = HeldLine::new();
+    let mut ready = Ready::new();
     // A proved loop has to end, and nothing says that the input does: the reads are counted up to a number that no run reaches.
     for _turn in 0..u64::MAX {
-        match read_some(input, output, sines, text, fed.held, out, fed.at)? {
-            Some(next) => fed = next,
-            None => break,
+        if !read_some(input, output, sines, &mut held, &mut ready)? {
+            break;
         }
     }
-    finish(output, sines, text, fed.held, out, fed.at)
+    finish(output, sines, &held, &mut ready)
 }
 
 // The listing of the input: the header, and a line for each of its lines.
@@ -133,10 +129,7 @@ fn list<R: Read, W: Write>(input: &mut R, output: &mut W) -> io::Result<()>
         Appends (W.contents output.old) (W.contents output.new) (listing_of bytes))) }
 {
     output.write_all(b"minute body frame status x y z\n")?;
-    let sines = angles::sines();
-    let mut text = [0u8; 36];
-    let mut out = [0u8; 65536];
-    run(input, output, &sines, &mut text, &mut out)
+    run(input, output, &angles::sines())
 }
 
 fn main(rt: HostRuntime) -> io::Result<()> {

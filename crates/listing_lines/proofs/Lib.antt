@@ -7,6 +7,7 @@
 --     Puts       bytes put into others, one lot behind another
 --     Texts      numbers put one behind another make a line
 --     Stream     the listing in parts is the listing
+--     Feeds      a part of the input with one byte more
 --     Back       a number that was printed reads back as itself
 pub mod Scan
 pub mod Fields
@@ -16,4 +17,5 @@ pub mod Sizes
 pub mod Puts
 pub mod Texts
 pub mod Stream
+pub mod Feeds
 pub mod Back

@@ -11,7 +11,8 @@ use lib.ListN.{length, take, get_or, set, length-append}
 use lib.Seq.{take-suc, take_all, take_at, take-append-le, take-suc-set, length-take-le, set_out}
 use borrow.Author.Tests.{eq-eqb, ne_eqb, leb-true, leb-false, ltb-true, ltb-false}
 use Rattle.listing_lines.specs.Line.{line_of, printed_of}
-use Rattle.listing_lines.specs.Stream.{is_end, last_of, printed_if, line_if, lines_from, header, listing_of, held_if, held_after, printed_after, one_more, count_if, text_if, count_after, text_after}
+use Rattle.listing_lines.specs.Held.{one_more}
+use Rattle.listing_lines.specs.Stream.{is_end, last_of, printed_if, line_if, lines_from, header, listing_of, held_if, held_after, printed_after, count_if, text_if, count_after, text_after}
 use Rattle.listing_lines.proofs.Long.{cut}
 
 -- ---- a part behind another
@@ -113,6 +114,11 @@ module _ (text : List ℕ) (n b : ℕ) (h : length text ≡ 36) (few : n ≤ 36)
       go : (t : Bool) → (t ≡ true → n < 36) → cond t (n + 1) n ≤ 36
       go true f = let l = f refl in omega arith
       go false f = few
+
+-- ---- a last line of no byte
+pub last_none : (l : List ℕ) → length l ≡ 0 → last_of l ≡ []
+last_none [] h = refl
+last_none (b ∷ l) h = absurd (omega arith)
 
 -- ---- a last line that is not empty
 pub last_is : (l : List ℕ) → 0 < length l → last_of l ≡ printed_of l

@@ -1,7 +1,8 @@
 -- Document 01, the listing program: all that it prints for its input, "the last line needs no line end". And the same where the
 -- input comes in parts: what is held of the line that has not ended, and what is printed meanwhile.
-use Rattle.std.specs.Prelude.{Bool, true, false, cond, List, [], ◌∷◌, ◌++◌, ◌≡◌, ℕ, ◌+◌, ◌*◌, ◌≤◌, eqb, ltb, length, take, set}
-use Rattle.listing_lines.specs.declared.Fed.{Fed}
+use Rattle.std.specs.Prelude.{Bool, true, false, List, [], ◌∷◌, ◌++◌, ◌≡◌, ℕ, ◌+◌, ◌*◌, ◌≤◌, eqb, length, take, set}
+use Rattle.listing_lines.specs.declared.held.HeldLine.{HeldLine}
+use Rattle.listing_lines.specs.Held.{held_of, one_more}
 use Rattle.listing_lines.specs.Line.{printed_of}
 use Rattle.listing_lines.specs.Put.{Put}
 
@@ -51,16 +52,13 @@ printed_after line [] = []
 printed_after line (b ∷ l) = printed_if (is_end b) line ++ printed_after (held_if (is_end b) line b) l
 
 -- a part was printed behind a line: the lines that ended in it are put from byte `at` on into `before`, which is now `after`, in at most
--- 147 bytes for a byte of the part
-pub record IsPrinted (line part : List ℕ) (at : ℕ) (before after : List ℕ) (fed : Fed) : Type 0 where
-  pub prints : Put at (printed_after line part) before after fed.at
-  pub within : fed.at ≤ at + 147 * length part
+-- 147 bytes for a byte of the part; `end` is the byte behind them
+pub record IsPrinted (line part : List ℕ) (at : ℕ) (before after : List ℕ) (end : ℕ) : Type 0 where
+  pub prints : Put at (printed_after line part) before after end
+  pub within : end ≤ at + 147 * length part
 
 -- ---- the 36 bytes in which a line is held, and how many of them are: a line end lets go of them all, and they stay as they are; any other
 -- byte is stored behind those that are held, but for one behind 36, which is stored nowhere
-abbrev pub one_more : ℕ → ℕ
-one_more n = cond (ltb n 36) (n + 1) n
-
 abbrev pub count_if : (is_end : Bool) → ℕ → ℕ
 count_if true n = 0
 count_if false n = one_more n
@@ -77,9 +75,9 @@ unfoldable pub text_after : ℕ → List ℕ → List ℕ → List ℕ
 text_after n text [] = text
 text_after n text (b ∷ l) = text_after (count_if (is_end b) n) (text_if (is_end b) n text b) l
 
--- a part was fed to n bytes held in `before`, which is now `after`: each of its bytes, and what is held of the line that has not ended
-pub record IsFed (n : ℕ) (before part after : List ℕ) (fed : Fed) : Type 0 where
-  pub count : fed.held ≡ count_after n part
-  pub few : fed.held ≤ 36
-  pub text : after ≡ text_after n before part
-  pub holds : take fed.held after ≡ held_after (take n before) part
+-- a part was fed to what is held of a line: each of its bytes, and what is held then of the line that has not ended
+pub record IsFed (before : HeldLine) (part : List ℕ) (after : HeldLine) : Type 0 where
+  pub count : after.len ≡ count_after before.len part
+  pub few : after.len ≤ 36
+  pub text : after.text ≡ text_after before.len before.text part
+  pub holds : held_of after ≡ held_after (held_of before) part

@@ -1,15 +1,19 @@
 // The lines of the listing: a line of input read as a request, the answer worked out, and its line printed into lent bytes.
 #![tactic(auto)]
 
-ghost use Rattle.std.specs.Prelude.{◌≡◌, true, [], ◌∷◌, ◌++◌, ◌+◌, ◌-◌, ◌*◌, ◌≤◌, ◌<◌, length, take, drop, set, position};
+ghost use Rattle.std.specs.Prelude.{◌≡◌, true, [], ◌∷◌, ◌++◌, ◌+◌, ◌-◌, ◌*◌, ◌≤◌, ◌<◌, length, position};
 ghost use Rattle.angles.specs.Sines.{sine_entries};
 ghost use Rattle.listing_lines.specs.Request.{is_space, digit_of, digits_of, whole_of, with_sign, field_of, rest_of, request_of};
 ghost use Rattle.listing_lines.specs.Decimal.{decimal_of, signed_of};
 ghost use Rattle.listing_lines.specs.Line.{text_of, numbers_of, answer_of, line_of, printed_of};
 ghost use Rattle.listing_lines.specs.Put.{Put};
-ghost use Rattle.listing_lines.specs.Stream.{last_of, one_more, IsFed, IsPrinted};
+ghost use Rattle.listing_lines.specs.Held.{held_of};
+ghost use Rattle.listing_lines.specs.Stream.{last_of, IsFed, IsPrinted};
+
+mod held;
 
 use dates::Date;
+pub use held::HeldLine;
 use places::PlaceAnswer;
 use refusals::Refusal;
 use tables::DEFAULT_TABLE;
@@ -195,72 +199,49 @@ pub fn put_line(sines: &[u32; 901], request: Option<Request>, bytes: &mut [u8], 
     put_numbers(answer_to(sines, request), bytes, at)
 }
 
-// One byte more of a line. Of a long line the first 36 bytes are held, which are no request either; the byte past them is not stored.
-fn keep(b: u8, text: &mut [u8], held: usize) -> usize
-    requires { (held ≤ 36) × (length text.old ≡ 36) }
-    ensures { (result ≡ one_more held) × (text.new ≡ set text.old held b) }
-{
-    if held < 36 {
-        text[held] = b;
-        return held + 1;
-    }
-    held
-}
-
 // The printed line of what is held of a line.
-fn put_held(sines: &[u32; 901], text: &[u8], held: usize, bytes: &mut [u8], at: usize) -> usize
+fn put_held(sines: &[u32; 901], held: &HeldLine, bytes: &mut [u8], at: usize) -> usize
     requires sines_value { sines.now ≡ sine_entries }
-    requires held_in_bounds { held ≤ length text.now }
     requires at_in_bounds { at + 147 ≤ length bytes.old }
-    ensures { Put at (printed_of (take held text.now)) bytes.old bytes.new result × (result ≤ at + 147) }
+    ensures { Put at (printed_of (held_of held.now)) bytes.old bytes.new result × (result ≤ at + 147) }
 {
-    put_line(sines, request_in(&text[..held]), bytes, at)
-}
-
-// How much is held of a line that has not ended, and the byte behind what is printed.
-#[derive(Clone, Copy, Debug, PartialEq, Eq)]
-pub struct Fed {
-    pub held: usize,
-    pub at: usize,
+    put_line(sines, request_in(held.bytes()), bytes, at)
 }
 
 // A part of the input: the lines that end in it are printed, at most 147 bytes for a byte, and what follows the last is held.
+// The result is the byte behind what is printed.
 pub fn feed(
     sines: &[u32; 901],
     part: &[u8],
-    text: &mut [u8],
-    held: usize,
+    held: &mut HeldLine,
     bytes: &mut [u8],
     at: usize,
-) -> Fed
+) -> usize
     requires sines_value { sines.now ≡ sine_entries }
-    requires held_bound { (held ≤ 36) × (length text.old ≡ 36) }
     requires part_in_bounds { at + 147 * length part.now ≤ length bytes.old }
-    ensures fed { IsFed held text.old part.now text.new result }
-    ensures printed { IsPrinted (take held text.old) part.now at bytes.old bytes.new result }
+    ensures fed { IsFed held.old part.now held.new }
+    ensures printed { IsPrinted (held_of held.old) part.now at bytes.old bytes.new result }
 {
-    let mut n = held;
     let mut next = at;
     for &b in part {
         if b == b'\n' {
-            next = put_held(sines, text, n, bytes, next);
-            n = 0;
+            next = put_held(sines, held, bytes, next);
+            held.clear();
         } else {
-            n = keep(b, text, n);
+            held.push(b);
         }
     }
-    Fed { held: n, at: next }
+    next
 }
 
 // The end of the input: what is held is a line without its end, where it is not empty.
-pub fn put_last(sines: &[u32; 901], text: &[u8], held: usize, bytes: &mut [u8], at: usize) -> usize
+pub fn put_last(sines: &[u32; 901], held: &HeldLine, bytes: &mut [u8], at: usize) -> usize
     requires sines_value { sines.now ≡ sine_entries }
-    requires held_in_bounds { held ≤ length text.now }
     requires at_in_bounds { at + 147 ≤ length bytes.old }
-    ensures { Put at (last_of (take held text.now)) bytes.old bytes.new result × (result ≤ at + 147) }
+    ensures { Put at (last_of (held_of held.now)) bytes.old bytes.new result × (result ≤ at + 147) }
 {
-    if held == 0 {
+    if held.bytes().is_empty() {
         return at;
     }
-    put_held(sines, text, held, bytes, at)
+    put_held(sines, held, bytes, at)
 }

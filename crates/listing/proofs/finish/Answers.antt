@@ -2,16 +2,18 @@
 -- There is room for a line where at most 27,904 bytes are ready.
 use Rattle.std.proofs.Common.{arith, take, subst}
 use Rattle.std.specs.Io.KnownBytes.{Appends}
+use Rattle.listing_lines.specs.Held.{held_of}
 use Rattle.listing_lines.specs.Stream.{last_of}
 use Rattle.listing.proofs.Sending.{on_ok, sends_all, put_behind}
 use Rattle.listing.proofs.finish.Goals as goal
 
-pub returns-clause-sent : goal.returns-clause-sent
-returns-clause-sent g c =
-    let mid = g.W.Write.contents c.flushed.new.output in
+pub returns : goal.returns
+returns g c =
+    let room = c.make_room.new.self in
+    let mid = g.W.Write.contents c.make_room.new.output in
     let after = g.W.Write.contents c.write_all.new.self in
-    let last = last_of (take c.args.held c.args.text.now) in
+    let last = last_of (held_of c.args.held.now) in
     on_ok c.write_all.result
     (λ (w : Appends mid after (take c.put_last-end.result c.put_last-end.new.bytes)).
-    sends_all after last c.in_ok-free.ensures.sent (subst (Appends mid after) (put_behind (omega (arith, c.in_ok-free.ensures.few, c.requires.at_bound)) c.put_last-end.ensures.0) w))
+    sends_all after last c.in_ok-make_room.ensures.sent (subst (Appends mid after) (put_behind (omega (arith, room.few, room.room)) c.put_last-end.ensures.0) w))
     c.write_all.ensures.bytes

@@ -14,4 +14,4 @@ returns g c =
     on_ok c.run.result
     (λ (p : IfSome start (λ bytes. length bytes < 2 ^ 64 - 1 → Appends mid after (lines_from [] bytes))).
     with_header start (g.W.Write.contents c.args.output.now) mid after c.in_ok-write_all.ensures.bytes p)
-    c.run.ensures.listed
+    c.run.ensures
