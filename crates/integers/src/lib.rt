@@ -7,7 +7,7 @@ ghost use Rattle.std.specs.Prelude.{◌≡◌, ◌≤◌, pos, nat_abs, ◌-ℤ�
 ghost use Rattle.integers.specs.Range.{is_from_to, ProductFits, SplitFits};
 ghost use Rattle.integers.specs.Floor.{floor_div, floor_mod, unit_product, end_turn};
 ghost use Rattle.integers.specs.Root.{IsRoot, root_of};
-ghost use Rattle.integers.specs.Sign.{signed, same, opposite_signs};
+ghost use Rattle.integers.specs.Sign.{signed, opposite_signs};
 ghost use Rattle.std.specs.Int.{w64};
 ghost use Rattle.std.proofs.Common.{of_z, to_z};
 
@@ -32,13 +32,6 @@ pub fn with_sign(negative: bool, size: u64) -> i64
 {
     let n = size as i64;
     if negative { -n } else { n }
-}
-
-// Whether two numbers are one.
-pub fn are_same(a: i64, b: i64) -> bool
-    ensures { result ≡ same a b }
-{
-    a == b
 }
 
 // How far apart any two numbers are, also where their difference does not fit 64 bits with its sign.
