@@ -5,7 +5,7 @@
 ghost use Rattle.std.specs.Prelude.{◌≡◌, ◌&&◌, ◌||◌};
 ghost use Rattle.integers.specs.Range.{Within};
 ghost use Rattle.integers.specs.Triple.{PartsWithin};
-ghost use Rattle.tables.specs.Table.{is_body, OnTable};
+ghost use Rattle.tables.specs.Table.{is_body};
 ghost use Rattle.frames.specs.Frame.{KnownFrame, is_frame, needs_earth, turned_between};
 ghost use Rattle.frames.specs.Answer.{in_limits, as_coordinates};
 ghost use Rattle.places.specs.Answer.{earth_at, place_if, place_after, turn_if, turn_answer, au_answer};
@@ -16,49 +16,44 @@ use dates::Date;
 use frames::Coordinates;
 use projector::PlaceInAu;
 use refusals::Refusal;
+use tables::{Body, Moment};
 
 // The Earth's place, for frames that go by it; for the others it is not worked out.
-fn earth_for(sines: &Sines, table: i64, from: i64, to: i64, minute: i64) -> [i64; 3]
-    requires { OnTable table minute }
-    ensures { result ≡ earth_if (needs_earth from || needs_earth to) table minute }
+fn earth_for(sines: &Sines, moment: Moment, from: i64, to: i64) -> [i64; 3]
+    ensures { result ≡ earth_if (needs_earth from || needs_earth to) moment.table moment.minute }
 {
     let needed = frames::needs_earth(from) | frames::needs_earth(to);
     if !needed {
         return [0, 0, 0];
     }
-    orbits::place_at(sines, table, 3, minute)
+    orbits::place_at(sines, moment, Body::Earth)
 }
 
-// A vector turned on an accepted minute between two frames.
-fn turned_on(sines: &Sines, table: i64, from: i64, to: i64, v: [i64; 3], minute: i64) -> Coordinates
+// A vector turned between two frames at a moment.
+fn turned_on(sines: &Sines, moment: Moment, from: i64, to: i64, v: [i64; 3]) -> Coordinates
     requires known_frame { KnownFrame from × KnownFrame to }
     requires parts_within { PartsWithin 1000000000 v }
-    requires on_table { OnTable table minute }
-    ensures { result ≡ as_coordinates (turned_between from to (earth_at table minute) v) }
+    ensures { result ≡ as_coordinates (turned_between from to (earth_at moment.table moment.minute) v) }
 {
-    let earth = earth_for(sines, table, from, to, minute);
+    let earth = earth_for(sines, moment, from, to);
     Coordinates::from(frames::turned_between(from, to, earth, v))
 }
 
-// The place of a body in a frame on an accepted minute: refusal 3, then 4.
+// The place of a body in a frame at a moment: refusal 3, then 4.
 fn place_on(
     sines: &Sines,
-    table: i64,
-    minute: i64,
+    moment: Moment,
     body: i64,
     frame: i64,
 ) -> Result<(i64, Coordinates), Refusal>
-    requires { OnTable table minute }
-    ensures { result ≡ place_if (is_body body) (is_frame frame) table body frame minute }
+    ensures { result ≡ place_if (is_body body) (is_frame frame) moment.table body frame moment.minute }
 {
-    if !tables::is_body(body) {
-        return Err(Refusal::NoSuchBody);
-    }
+    let body = Body::try_from(body)?;
     if !frames::is_frame(frame) {
         return Err(Refusal::NoSuchFrame);
     }
-    let v = orbits::place_at(sines, table, body, minute);
-    Ok((minute, turned_on(sines, table, 1, frame, v, minute)))
+    let v = orbits::place_at(sines, moment, body);
+    Ok((moment.minute, turned_on(sines, moment, 1, frame, v)))
 }
 
 // The minute of a date and an offset, and the place of a body in a frame on it: refusals 1, 11, 2, 3, 4 in order. The row, the sheet,
@@ -74,8 +69,8 @@ pub fn place_after(
     requires { Within 10000000000000 offset }
     ensures { result ≡ place_after date table offset body frame }
 {
-    let minute = tables::moment_after(date, table, offset)?;
-    place_on(sines, table, minute, body, frame)
+    let moment = tables::moment_on(date, table, offset)?;
+    place_on(sines, moment, body, frame)
 }
 
 // The place on a date as three doubles in au, for the projector.
@@ -92,17 +87,15 @@ pub fn place_in_au(
     Ok(projector::in_au(p.x, p.y, p.z))
 }
 
-// A vector turned on an accepted minute: refusal 4, then 5.
+// A vector turned between two frames at a moment: refusal 4, then 5.
 fn turn_on(
     sines: &Sines,
-    table: i64,
-    minute: i64,
+    moment: Moment,
     from: i64,
     to: i64,
     v: [i64; 3],
 ) -> Result<Coordinates, Refusal>
-    requires { OnTable table minute }
-    ensures { result ≡ turn_if (is_frame from && is_frame to) (in_limits v) table from to v minute }
+    ensures { result ≡ turn_if (is_frame from && is_frame to) (in_limits v) moment.table from to v moment.minute }
 {
     if !frames::is_frame(from) {
         return Err(Refusal::NoSuchFrame);
@@ -113,7 +106,7 @@ fn turn_on(
     if !frames::in_limits(v) {
         return Err(Refusal::TooFar);
     }
-    Ok(turned_on(sines, table, from, to, v, minute))
+    Ok(turned_on(sines, moment, from, to, v))
 }
 
 // A vector of one frame in another on a date. The date is tested for every pair of frames.
@@ -127,6 +120,6 @@ pub fn turn_on_date(
 ) -> Result<Coordinates, Refusal>
     ensures { result ≡ turn_answer date table from to v }
 {
-    let minute = tables::moment_after(date, table, 0)?;
-    turn_on(sines, table, minute, from, to, v)
+    let moment = tables::moment_on(date, table, 0)?;
+    turn_on(sines, moment, from, to, v)
 }

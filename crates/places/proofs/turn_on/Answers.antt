@@ -10,7 +10,6 @@ use Rattle.integers.proofs.Triples.{parts_more}
 use Rattle.frames.proofs.Choice.{limits_parts}
 use Rattle.places.specs.Answer.{earth_at, turn_if}
 use Rattle.integers.proofs.Ranges.{inside_of}
-use Rattle.tables.proofs.Laws.{covered_read, on_table_read}
 use Rattle.places.proofs.turn_on.Goals as goal
 use Rattle.places.proofs.turn_on.Goals.{After-is_frame, After-is_frame-2, Else-not-in_limits, Else-not-is_frame, Else-not-is_frame-2, Start}
 use Rattle.std.specs.Prelude.{Ok}
@@ -23,8 +22,8 @@ module _ (s : Start) where
   to_is = back s.args.to s.ranges.to
 
   -- the answer by the outcomes of the three tests
-  by : {a b r : Bool} → is_frame s.args.from ≡ a → is_frame s.args.to ≡ b → in_limits s.args.v ≡ r → turn_if (is_frame s.args.from && is_frame s.args.to) (in_limits s.args.v) s.args.table s.args.from s.args.to s.args.v s.args.minute ≡ turn_if (a && b) r s.args.table s.args.from s.args.to s.args.v s.args.minute
-  by e f g i = turn_if (e i && f i) (g i) s.args.table s.args.from s.args.to s.args.v s.args.minute
+  by : {a b r : Bool} → is_frame s.args.from ≡ a → is_frame s.args.to ≡ b → in_limits s.args.v ≡ r → turn_if (is_frame s.args.from && is_frame s.args.to) (in_limits s.args.v) s.args.moment.table s.args.from s.args.to s.args.v s.args.moment.minute ≡ turn_if (a && b) r s.args.moment.table s.args.from s.args.to s.args.v s.args.moment.minute
+  by e f g i = turn_if (e i && f i) (g i) s.args.moment.table s.args.from s.args.to s.args.v s.args.moment.minute
 
 -- the tests' results, of the numbers themselves
 from_test : (c : After-is_frame) → is_frame c.before.args.from ≡ c.is_frame.result
@@ -73,8 +72,7 @@ turned_on-requires c =
         subst KnownFrame (sym (from_is s)) (known_frame s.args.from (from_known e.before.before)),
         subst KnownFrame (sym (to_is s)) (known_frame s.args.to (to_known e)),
       );
-      parts_within = parts_more (limits_parts s.args.v s.well_formed.1.1.1.1.1.0.1.0.1 (near c)) tt;
-      on_table = on_table_read s.ranges.table s.requires;
+      parts_within = parts_more (limits_parts s.args.v s.well_formed.1.1.1.1.0.1.0.1 (near c)) tt;
     }
 
 pub returns : goal.returns
@@ -82,5 +80,5 @@ returns c =
     let n = c.before in
     let e = n.before.before in
     let s = e.before.before.before.before in
-    ap Ok (c.turned_on.ensures ∙ (λ i. as_coordinates (turned_between (from_is s i) (to_is s i) (earth_at (back s.args.table s.ranges.table i) (covered_read s.requires i)) s.args.v)))
+    ap Ok (c.turned_on.ensures ∙ (λ i. as_coordinates (turned_between (from_is s i) (to_is s i) (earth_at s.args.moment.table s.args.moment.minute) s.args.v)))
     ∙ sym (by s (from_known e.before.before) (to_known e) (near n))

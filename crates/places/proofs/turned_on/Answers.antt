@@ -3,8 +3,6 @@
 use mathlib.Core.Bool.{◌||◌}
 use mathlib.Core.Path.{◌≡◌, subst, subst₂, sym, ap, ◌∙◌}
 use Rattle.integers.proofs.Cast.{read, back}
-use Rattle.tables.specs.Table.{OnTable}
-use Rattle.tables.proofs.Laws.{covered_read, on_table_read}
 use Rattle.frames.specs.Range.{EarthFits}
 use Rattle.frames.specs.Frame.{KnownFrame, needs_earth, turned_between}
 use Rattle.frames.specs.Answer.{as_coordinates}
@@ -20,24 +18,15 @@ module _ (s : Start) where
   to_is : read s.args.to ≡ s.args.to
   to_is = back s.args.to s.ranges.to
 
-  table_is : read s.args.table ≡ s.args.table
-  table_is = back s.args.table s.ranges.table
-
-  on_table : OnTable s.args.table s.args.minute
-  on_table = s.requires.on_table
-
-pub earth_for-earth-requires : goal.earth_for-earth-requires
-earth_for-earth-requires c = on_table_read c.ranges.table (on_table c)
-
-earth_is : (c : After-earth_for-earth) → c.earth_for-earth.result ≡ earth_if (needs_earth c.before.args.from || needs_earth c.before.args.to) c.before.args.table c.before.args.minute
+earth_is : (c : After-earth_for-earth) → c.earth_for-earth.result ≡ earth_if (needs_earth c.before.args.from || needs_earth c.before.args.to) c.before.args.moment.table c.before.args.moment.minute
 earth_is c =
     let s = c.before in
-    c.earth_for-earth.ensures ∙ (λ i. earth_if (needs_earth (from_is s i) || needs_earth (to_is s i)) (table_is s i) (covered_read (on_table s) i))
+    c.earth_for-earth.ensures ∙ (λ i. earth_if (needs_earth (from_is s i) || needs_earth (to_is s i)) s.args.moment.table s.args.moment.minute)
 
 pub turned_between-requires : goal.turned_between-requires
 turned_between-requires c =
     let s = c.before in
-    let e = earth_if_fits s.args.table s.args.minute (on_table s) s.args.from s.args.to in record { known_frame = (subst KnownFrame (sym (from_is s)) s.requires.known_frame.0, subst₂ EarthFits (sym (from_is s)) (sym (earth_is c)) e.0); known_frame_2 = (subst KnownFrame (sym (to_is s)) s.requires.known_frame.1, subst₂ EarthFits (sym (to_is s)) (sym (earth_is c)) e.1); parts_within = s.requires.parts_within }
+    let e = earth_if_fits s.args.moment.table s.args.moment.minute s.args.moment.on_table s.args.from s.args.to in record { known_frame = (subst KnownFrame (sym (from_is s)) s.requires.known_frame.0, subst₂ EarthFits (sym (from_is s)) (sym (earth_is c)) e.0); known_frame_2 = (subst KnownFrame (sym (to_is s)) s.requires.known_frame.1, subst₂ EarthFits (sym (to_is s)) (sym (earth_is c)) e.1); parts_within = s.requires.parts_within }
 
 pub returns : goal.returns
 returns c =
@@ -45,4 +34,4 @@ returns c =
     let e = t.before in
     let s = e.before in
     c.from.ensures
-    ∙ ap as_coordinates (t.turned_between.ensures ∙ (λ i. turned_between (from_is s i) (to_is s i) (earth_is e i) s.args.v) ∙ earth_enough s.args.table s.args.minute (on_table s) s.args.from s.args.to s.args.v s.requires.known_frame.0 s.requires.known_frame.1)
+    ∙ ap as_coordinates (t.turned_between.ensures ∙ (λ i. turned_between (from_is s i) (to_is s i) (earth_is e i) s.args.v) ∙ earth_enough s.args.moment.table s.args.moment.minute s.args.moment.on_table s.args.from s.args.to s.args.v s.requires.known_frame.0 s.requires.known_frame.1)
