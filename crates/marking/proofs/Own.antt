@@ -1,4 +1,4 @@
--- "With difference 0, "good" means equal to our own rows", the bytes that our row call leaves with answer 0; of a sheet that our sheet call wrote only
+-- "With difference 0, "good" means equal to our own rows", the bytes that our row call leaves without a refusal; of a sheet that our sheet call wrote only
 -- refused rows are wrong, at any allowance. A coordinate that is 0 off is ours, and a place once found is found again by its minute.
 use mathlib.Core.Bool.{true}
 use mathlib.Core.List.{List, ◌++◌}
@@ -9,7 +9,7 @@ use lib.Dec.{T}
 use lib.IntN.{ℤ, pos, nat_abs, ◌*ℤ◌}
 use lib.ListN.{length, take, drop, take-append-drop}
 use lib.Pow.{are_bytes}
-use Rattle.std.specs.Prelude.{Some, None, Ok}
+use Rattle.std.specs.Prelude.{⊤, Some, None, Result, Ok}
 use Rattle.integers.proofs.Ring.{abs_itself, abs_none}
 use Rattle.refusals.specs.declared.Refusal.{Refusal}
 use Rattle.refusals.specs.Number.{number_of}
@@ -20,7 +20,7 @@ use Rattle.layouts.proofs.Layouts.{bytes_parts}
 use Rattle.frames.specs.declared.Coordinates.{Coordinates}
 use Rattle.places.specs.declared.PlaceAnswer.{PlaceAnswer}
 use Rattle.places.specs.declared.PlaceAnswer.TheVariants.{Found, Refused}
-use Rattle.places.specs.Answer.{place_after, place_answer, place_status}
+use Rattle.places.specs.Answer.{place_after, place_answer}
 use Rattle.places.proofs.Answers.{found_again}
 use Rattle.rows.specs.declared.Row.{Row}
 use Rattle.rows.specs.declared.ReadAnswer.TheVariants.{Found as FoundRow}
@@ -28,8 +28,8 @@ use Rattle.rows.specs.Fields.{row_size, row_table, good_row, bare_row, row_bytes
 use Rattle.rows.specs.Answer.{read_of}
 use Rattle.rows.proofs.RoundTrip.{what_is_read_is_a_row, what_is_read_has_its_size, its_bytes_are_those_read}
 use Rattle.rows.proofs.Taken.{good_is, good_by_status, refused_by_status}
-use Rattle.sheets.specs.Row.{row_for, answer_written, row_written}
-use Rattle.sheets.specs.Sheet.{answer_at, is_sheet, sheet_written}
+use Rattle.sheets.specs.Row.{row_for, row_told, answer_written, row_written, row_status}
+use Rattle.sheets.specs.Sheet.{answer_at, is_sheet, sheet_written, sheet_good}
 use Rattle.sheets.proofs.Laws.{row_by}
 use Rattle.sheets.proofs.Sheets.{a_row_call_leaves_a_row, a_sheet_keeps_the_length, row_k_is_read, FoundAt, no_row_is_refused}
 use Rattle.marking.specs.Mark.{mark_answer}
@@ -58,25 +58,25 @@ module _ (allowed : ℕ) (date : Date) (offset body frame : ℤ) (bytes : List �
       let taken : read_of bytes ≡ FoundRow row = read ∙ ap (λ (a : PlaceAnswer). FoundRow (row_for body frame a)) e in
       refused_one row taken (refused_by_status row (what_is_read_is_a_row bytes row taken) (number_not_0 r))
 
--- ---- what a row call of ours leaves with status 0 is right at any allowance
-pub what_a_row_call_leaves_is_right : (allowed : ℕ) (date : Date) (body frame : ℤ) (before after : List ℕ) → row_size ≤ length before → row_written date body frame before ≡ (pos 0, after) → RightRow allowed after
+-- ---- what a row call of ours leaves without a refusal is right at any allowance
+pub what_a_row_call_leaves_is_right : (allowed : ℕ) (date : Date) (body frame : ℤ) (before after : List ℕ) → row_size ≤ length before → row_written date body frame before ≡ (Ok tt, after) → RightRow allowed after
 what_a_row_call_leaves_is_right allowed date body frame before after h e = go (place_answer date row_table body frame) refl
   where
-    written : answer_written body frame (place_answer date row_table body frame) before ≡ (pos 0, after)
+    written : answer_written body frame (place_answer date row_table body frame) before ≡ (Ok tt, after)
     written = sym (row_by date body frame before h) ∙ e
 
     read : read_of after ≡ FoundRow (row_for body frame (place_answer date row_table body frame))
-    read = ap (λ (w : ℤ × List ℕ). read_of w.1) (sym e) ∙ a_row_call_leaves_a_row date body frame before h
+    read = ap (λ (w : Result ⊤ Refusal × List ℕ). read_of w.1) (sym e) ∙ a_row_call_leaves_a_row date body frame before h
 
     go : (a : PlaceAnswer) → place_answer date row_table body frame ≡ a → RightRow allowed after
     go (Found m p) f = a_found_answer_is_right allowed date (pos 0) body frame after read m p f
-    go (Refused r) f = absurd (number_not_0 r (ap place_status (sym f) ∙ ap (λ (w : ℤ × List ℕ). w.0) written))
+    go (Refused r) f = absurd (number_not_0 r (ap row_status (ap row_told (sym f) ∙ ap (λ (w : Result ⊤ Refusal × List ℕ). w.0) written)))
 
--- ---- "equal to our own rows": our row call for the row's own body, frame and minute answers 0 and leaves the row's bytes
+-- ---- "equal to our own rows": our row call for the row's own body, frame and minute tells of no refusal and leaves the row's bytes
 pub record OurOwn (bytes : List ℕ) : Type 0 where
   pub row : Row
   pub read : read_of bytes ≡ FoundRow row
-  pub left : (before : List ℕ) → row_size ≤ length before → row_written (Minutes row.minutes) row.body row.frame before ≡ (pos 0, take row_size bytes ++ drop row_size before)
+  pub left : (before : List ℕ) → row_size ≤ length before → row_written (Minutes row.minutes) row.body row.frame before ≡ (Ok tt, take row_size bytes ++ drop row_size before)
 
 right_is_our_own : (bytes : List ℕ) → T (are_bytes bytes) → RightRow 0 bytes → OurOwn bytes
 right_is_our_own bytes t r = record { row = row; read = r.read; left = left }
@@ -95,17 +95,17 @@ right_is_our_own bytes t r = record { row = row; read = r.read; left = left }
       z = abs_none row.z r.ours.z r.near.z_near i;
     }
 
-    left : (before : List ℕ) → row_size ≤ length before → row_written (Minutes row.minutes) row.body row.frame before ≡ (pos 0, take row_size bytes ++ drop row_size before)
+    left : (before : List ℕ) → row_size ≤ length before → row_written (Minutes row.minutes) row.body row.frame before ≡ (Ok tt, take row_size bytes ++ drop row_size before)
     left before h =
         row_by (Minutes row.minutes) row.body row.frame before h
         ∙ ap (λ (a : PlaceAnswer). answer_written row.body row.frame a before) r.place
-        ∙ ap (λ (b : List ℕ). (pos 0, b ++ drop row_size before)) (ap row_bytes (sym equal) ∙ its_bytes_are_those_read bytes row r.read t)
+        ∙ ap (λ (b : List ℕ). (Ok tt, b ++ drop row_size before)) (ap row_bytes (sym equal) ∙ its_bytes_are_those_read bytes row r.read t)
 
 our_own_is_right : (allowed : ℕ) (bytes : List ℕ) → OurOwn bytes → RightRow allowed bytes
 our_own_is_right allowed bytes o =
     let row = o.row in
     let room = what_is_read_has_its_size bytes row o.read in
-    what_a_row_call_leaves_is_right allowed (Minutes row.minutes) row.body row.frame bytes bytes room (o.left bytes room ∙ ap (λ (b : List ℕ). (pos 0, b)) (take-append-drop row_size bytes))
+    what_a_row_call_leaves_is_right allowed (Minutes row.minutes) row.body row.frame bytes bytes room (o.left bytes room ∙ ap (λ (b : List ℕ). (Ok tt, b)) (take-append-drop row_size bytes))
 
 module _ (bytes : List ℕ) (count : ℤ) where
   pub good_at_0_means_our_own_rows : T (are_bytes bytes) → mark_answer bytes count (pos 0) ≡ Ok None → (k : ℕ) → k < nat_abs count → OurOwn (drop (row_size * k) bytes)
@@ -126,7 +126,7 @@ module _ (start : Date) (step count body frame : ℤ) (before : List ℕ) (is : 
   right_at k l f = a_found_answer_is_right (nat_abs allowed) start (step *ℤ pos k) body frame (drop (row_size * k) after) (row_k_is_read start step count body frame before is room k l) f.minute f.place f.is
 
   -- "A sheet that the sheet call wrote without a refused row is good", at any allowance
-  pub a_sheet_without_a_refused_row_is_good : (sheet_written start step count body frame before).0.good ≡ nat_abs count → mark_answer after count allowed ≡ Ok None
+  pub a_sheet_without_a_refused_row_is_good : sheet_good (sheet_written start step count body frame before).0 ≡ nat_abs count → mark_answer after count allowed ≡ Ok None
   a_sheet_without_a_refused_row_is_good e =
       good_where_every_row_is_right after count allowed marked (λ k l. right_at k l (no_row_is_refused start step count body frame before is room e k l))
 

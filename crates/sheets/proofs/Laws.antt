@@ -1,17 +1,21 @@
 -- The row call and the sheet call by what their tests told, and what a step and a count that are taken are.
 -- By the cases of the definitions.
+use borrow.Author.Tests.{le-leb, lt-leb}
 use mathlib.Core.Bool.{Bool, true, false}
 use mathlib.Core.List.{List, ◌++◌}
-use mathlib.Core.Path.{◌≡◌, ap, subst⁻¹}
+use mathlib.Core.Path.{◌≡◌, refl, sym, ap, subst⁻¹}
 use Prim.Native.Nat.{ℕ, ◌+◌, ◌*◌, ◌≤◌, ◌<◌}
 use native.Mathlib.Numerals.{add-one}
+use native.Mathlib.Omega.{arith}
 use lib.Dec.{T, leb}
 use lib.IntN.{ℤ, pos, nat_abs}
 use lib.ListN.{length, drop}
-use borrow.Author.Tests.{le-leb, lt-leb}
 use mir.Facts.{and_yes}
+use Rattle.std.specs.Prelude.{Ok, Err}
+use Rattle.std.specs.Result.{is_ok}
 use Rattle.integers.specs.Range.{Within, FromTo, is_from_to}
 use Rattle.integers.proofs.Ranges.{of_test, range_most}
+use Rattle.integers.proofs.Table.{differ}
 use Rattle.refusals.specs.declared.Refusal.TheVariants.{ShortBuffer, BadCount}
 use Rattle.refusals.specs.Number.{number_of}
 use Rattle.dates.specs.declared.Date.{Date}
@@ -19,19 +23,37 @@ use Rattle.dates.specs.Moment.{is_step}
 use Rattle.dates.proofs.Laws.{step_small}
 use Rattle.places.specs.declared.PlaceAnswer.{PlaceAnswer}
 use Rattle.places.specs.declared.PlaceAnswer.TheVariants.{Found, Refused}
-use Rattle.places.specs.Answer.{place_answer}
+use Rattle.places.specs.Answer.{place_answer, place_status}
 use Rattle.rows.specs.Fields.{row_size, row_table, good_row}
 use Rattle.rows.proofs.RoundTrip.{a_row_has_its_size, a_refused_row_has_its_size}
-use Rattle.sheets.specs.Row.{bytes_for, answer_written, row_if, row_written}
-use Rattle.sheets.specs.Sheet.{answer_at, rows_of, one_if, good_of, is_sheet, answered, sheet_if, sheet_written}
+use Rattle.sheets.specs.Row.{bytes_for, row_told, answer_written, row_if, row_written, row_status}
+use Rattle.sheets.specs.Sheet.{answer_at, rows_of, one_if, good_of, is_sheet, sheet_if, sheet_written}
 
 pub bytes_long : (body frame : ℤ) (answer : PlaceAnswer) → length (bytes_for body frame answer) ≡ row_size
 bytes_long body frame (Found m p) = a_row_has_its_size (good_row body frame m p.x p.y p.z)
 bytes_long body frame (Refused r) = a_refused_row_has_its_size (number_of r)
 
+-- the status of an answer's row is the number of the answer
+pub row_status_is : (answer : PlaceAnswer) → row_status (row_told answer) ≡ place_status answer
+row_status_is (Found m p) = refl
+row_status_is (Refused r) = refl
+
+-- an answer counts as a good row where its row call tells of no refusal
+pub one_told : (answer : PlaceAnswer) → is_ok (row_told answer) ≡ true → one_if answer ≡ 1
+one_told (Found m p) e = refl
+one_told (Refused r) e = absurd (differ e)
+
+pub none_told : (answer : PlaceAnswer) → is_ok (row_told answer) ≡ false → one_if answer ≡ 0
+none_told (Found m p) e = absurd (differ (sym e))
+none_told (Refused r) e = refl
+
+pub one_most : (answer : PlaceAnswer) → one_if answer ≤ 1
+one_most (Found m p) = omega arith
+one_most (Refused r) = omega arith
+
 -- ---- the row of a date
 module _ (date : Date) (body frame : ℤ) (before : List ℕ) where
-  pub row_short : length before < row_size → row_written date body frame before ≡ (number_of ShortBuffer, before)
+  pub row_short : length before < row_size → row_written date body frame before ≡ (Err ShortBuffer, before)
   unfolding row_written
   row_short h = ap (λ (b : Bool). row_if b body frame (place_answer date row_table body frame) before) (lt-leb row_size (length before) h)
 
@@ -46,16 +68,16 @@ module _ (start : Date) (step body frame : ℤ) where
   good_more i = rw add-one
 
   module _ (count : ℤ) (before : List ℕ) where
-    pub no_sheet : is_sheet step count ≡ false → sheet_written start step count body frame before ≡ (answered (number_of BadCount) 0, before)
+    pub no_sheet : is_sheet step count ≡ false → sheet_written start step count body frame before ≡ (Err BadCount, before)
     unfolding sheet_written
     no_sheet e = ap (λ (b : Bool). sheet_if b (leb (row_size * nat_abs count) (length before)) start step (nat_abs count) body frame before) e
 
-    pub sheet_short : is_sheet step count ≡ true → length before < row_size * nat_abs count → sheet_written start step count body frame before ≡ (answered (number_of ShortBuffer) 0, before)
+    pub sheet_short : is_sheet step count ≡ true → length before < row_size * nat_abs count → sheet_written start step count body frame before ≡ (Err ShortBuffer, before)
     unfolding sheet_written
     sheet_short e h = λ i. sheet_if (e i) (lt-leb (row_size * nat_abs count) (length before) h i) start step (nat_abs count) body frame before
 
     pub sheet_by : is_sheet step count ≡ true → row_size * nat_abs count ≤ length before
-        → sheet_written start step count body frame before ≡ (answered (pos 0) (good_of start step body frame (nat_abs count)), rows_of start step body frame (nat_abs count) ++ drop (row_size * nat_abs count) before)
+        → sheet_written start step count body frame before ≡ (Ok (good_of start step body frame (nat_abs count)), rows_of start step body frame (nat_abs count) ++ drop (row_size * nat_abs count) before)
     unfolding sheet_written
     sheet_by e h = λ i. sheet_if (e i) (le-leb (row_size * nat_abs count) (length before) h i) start step (nat_abs count) body frame before
 

@@ -1,5 +1,6 @@
 -- What a row call or a sheet writes are rows: a reader takes each, with exactly the fields of its date's answer, and of status 0 to 4; in a sheet
 -- each stands by itself, and the number answered is that of the status-0 rows. An answer's fields are a row's; the rest goes block by block.
+use borrow.Author.Tests.{le-leb}
 use mathlib.Core.Bool.{true, false, ◌&&◌}
 use mathlib.Core.List.{List, ◌++◌, append_assoc}
 use mathlib.Core.Logic.{◌⊎◌, inl, inr}
@@ -9,19 +10,18 @@ use native.Mathlib.Omega.{arith}
 use lib.Dec.{T}
 use lib.IntN.{ℤ, pos, nat_abs, ◌+ℤ◌, ◌*ℤ◌}
 use lib.ListN.{length, take, drop, take-append-drop}
-use borrow.Author.Tests.{le-leb}
 use mir.Facts.{yes_and}
 use mir.Syntax.{w64}
 use mir.Val.{SFits}
+use Rattle.std.specs.Prelude.{⊤, Result}
 use Rattle.integers.proofs.Number.{w_fits, w_lit}
 use Rattle.integers.proofs.Table.{yes, or_left, or_right, le_split}
-use Rattle.refusals.specs.declared.Refusal.{Refusal}
-use Rattle.refusals.proofs.Numbers.{number_is}
-use Rattle.sheets.specs.declared.SheetAnswer.{SheetAnswer}
 use Rattle.integers.specs.Range.{FromTo, is_from_to}
 use Rattle.integers.specs.Buffer.{blocks}
 use Rattle.integers.proofs.Ranges.{to_test, of_test, range_more, range_least}
 use Rattle.integers.proofs.Blocks.{blocks_long, block_in_place, filled_long}
+use Rattle.refusals.specs.declared.Refusal.{Refusal}
+use Rattle.refusals.proofs.Numbers.{number_is}
 use Rattle.refusals.specs.Number.{number_of}
 use Rattle.dates.specs.declared.Date.{Date}
 use Rattle.dates.specs.declared.Date.TheVariants.{Minutes}
@@ -43,8 +43,8 @@ use Rattle.rows.specs.Answer.{read_of, written_if, written}
 use Rattle.rows.proofs.Taken.{Counts}
 use Rattle.rows.proofs.RoundTrip.{a_refused_row_is_a_row_of_zeros, reading_gives_what_was_written, the_status_of_row, the_status_of_refused_row}
 use Rattle.sheets.specs.Row.{row_for, bytes_for, row_written}
-use Rattle.sheets.specs.Sheet.{answer_at, bytes_at, rows_of, good_of, is_sheet, sheet_written, good_in, one_for, one_if}
-use Rattle.sheets.proofs.Laws.{bytes_long, row_by, sheet_by}
+use Rattle.sheets.specs.Sheet.{answer_at, bytes_at, rows_of, good_of, is_sheet, sheet_written, sheet_good, good_in, one_for, one_if}
+use Rattle.sheets.proofs.Laws.{bytes_long, one_most, row_by, sheet_by}
 
 -- ---- a row's table is one that there is, so that 11 does not stand in a row
 one_of_four : (r : Refusal) → IsRefused row_table r → FromTo (pos 1) (pos 4) (number_of r)
@@ -97,16 +97,12 @@ module _ (date : Date) (offset body frame : ℤ) where
 -- the row that a row call leaves
 pub a_row_call_leaves_a_row : (date : Date) (body frame : ℤ) (before : List ℕ) → row_size ≤ length before → read_of (row_written date body frame before).1 ≡ FoundRow (row_for body frame (place_answer date row_table body frame))
 a_row_call_leaves_a_row date body frame before h =
-    ap (λ (w : ℤ × List ℕ). read_of w.1) (row_by date body frame before h) ∙ a_written_row_is_a_row date (pos 0) body frame (drop row_size before)
+    ap (λ (w : Result ⊤ Refusal × List ℕ). read_of w.1) (row_by date body frame before h) ∙ a_written_row_is_a_row date (pos 0) body frame (drop row_size before)
 
 -- ---- the good rows of a sheet are those of status 0
 not_one : (k : ℕ) → 1 ≤ k → one_for k ≡ 0
 not_one zero l = absurd (omega arith)
 not_one (suc k) l = refl
-
-one_most : (answer : PlaceAnswer) → one_if answer ≤ 1
-one_most (Found m p) = omega arith
-one_most (Refused r) = omega arith
 
 -- row n stands after n rows, and its status says whether it is good
 one_more : (body frame : ℤ) (done : List ℕ) (n : ℕ) (answer : PlaceAnswer) (rest : List ℕ) → length done ≡ row_size * n → one_for (status_at (done ++ (bytes_for body frame answer ++ rest)) n) ≡ one_if answer
@@ -153,7 +149,7 @@ module _ (start : Date) (step count body frame : ℤ) (before : List ℕ) (is : 
   after = (sheet_written start step count body frame before).1
 
   rows_are : after ≡ rows_of start step body frame (nat_abs count) ++ drop (row_size * nat_abs count) before
-  rows_are = ap (λ (w : SheetAnswer × List ℕ). w.1) (sheet_by start step body frame count before is room)
+  rows_are = ap (λ (w : Result ℕ Refusal × List ℕ). w.1) (sheet_by start step body frame count before is room)
 
   pub a_sheet_keeps_the_length : length after ≡ length before
   a_sheet_keeps_the_length = ap length rows_are ∙ filled_long row_size (bytes_at start step body frame) (sized start step body frame) (nat_abs count) before room
@@ -179,15 +175,15 @@ module _ (start : Date) (step count body frame : ℤ) (before : List ℕ) (is : 
   every_row_has_status_1 k e h =
       row_k_stands_by_itself k h ∙ ap (λ (o : Moment). bytes_for body frame (place_on o row_table body frame)) (after_not_finite start row_table (step *ℤ pos k) e)
 
-  answered_good : (sheet_written start step count body frame before).0.good ≡ good_of start step body frame (nat_abs count)
-  answered_good = ap (λ (w : SheetAnswer × List ℕ). w.0.good) (sheet_by start step body frame count before is room)
+  answered_good : sheet_good (sheet_written start step count body frame before).0 ≡ good_of start step body frame (nat_abs count)
+  answered_good = ap (λ (w : Result ℕ Refusal × List ℕ). sheet_good w.0) (sheet_by start step body frame count before is room)
 
   -- where it is the count, no row is refused
-  pub no_row_is_refused : (sheet_written start step count body frame before).0.good ≡ nat_abs count → (k : ℕ) → k < nat_abs count → FoundAt start step body frame k
+  pub no_row_is_refused : sheet_good (sheet_written start step count body frame before).0 ≡ nat_abs count → (k : ℕ) → k < nat_abs count → FoundAt start step body frame k
   no_row_is_refused e k h = every_row_is_found start step body frame (nat_abs count) (sym answered_good ∙ e) k h
 
   -- the number answered is that of the rows of status 0 that stand in the result
-  pub good_is_counted : (sheet_written start step count body frame before).0.good ≡ good_in after (nat_abs count)
+  pub good_is_counted : sheet_good (sheet_written start step count body frame before).0 ≡ good_in after (nat_abs count)
   good_is_counted =
       answered_good
       ∙ counted start step body frame (nat_abs count) (drop (row_size * nat_abs count) before)

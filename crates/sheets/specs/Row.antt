@@ -1,12 +1,13 @@
 -- Document 01, "Rows and sheets": the row of a date, a body and a frame, byte for byte; refusals 1, 2, 3, 4 stand in the row, and
 -- refusal 8 leaves the buffer untouched.
-use Rattle.std.specs.Prelude.{Bool, true, false, List, ◌++◌, ℕ, leb, ℤ, length, drop}
+use Rattle.std.specs.Prelude.{Bool, true, false, List, ◌++◌, ℕ, leb, ℤ, pos, length, drop, ⊤, Result, Ok, Err}
+use Rattle.refusals.specs.declared.Refusal.{Refusal}
 use Rattle.refusals.specs.declared.Refusal.TheVariants.{ShortBuffer}
 use Rattle.refusals.specs.Number.{number_of}
 use Rattle.dates.specs.declared.Date.{Date}
 use Rattle.places.specs.declared.PlaceAnswer.{PlaceAnswer}
 use Rattle.places.specs.declared.PlaceAnswer.TheVariants.{Found, Refused}
-use Rattle.places.specs.Answer.{place_answer, place_status}
+use Rattle.places.specs.Answer.{place_answer}
 use Rattle.rows.specs.declared.Row.{Row}
 use Rattle.rows.specs.Fields.{row_size, row_table, good_row, bare_row, row_bytes, refused_bytes}
 
@@ -20,15 +21,25 @@ abbrev pub bytes_for : ℤ → ℤ → PlaceAnswer → List ℕ
 bytes_for body frame (Found m p) = row_bytes (good_row body frame m p.x p.y p.z)
 bytes_for body frame (Refused r) = refused_bytes (number_of r)
 
--- its status, and the bytes that it leaves: "Bytes after the row stay"
-abbrev pub answer_written : ℤ → ℤ → PlaceAnswer → List ℕ → ℤ × List ℕ
-answer_written body frame answer before = (place_status answer, bytes_for body frame answer ++ drop row_size before)
+-- what it tells: nothing but that it was found, or the refusal
+abbrev pub row_told : PlaceAnswer → Result ⊤ Refusal
+row_told (Found m p) = Ok tt
+row_told (Refused r) = Err r
+
+-- that, and the bytes that it leaves: "Bytes after the row stay"
+abbrev pub answer_written : ℤ → ℤ → PlaceAnswer → List ℕ → Result ⊤ Refusal × List ℕ
+answer_written body frame answer before = (row_told answer, bytes_for body frame answer ++ drop row_size before)
 
 -- by whether there is room: refusal 8, "buffer untouched"
-abbrev pub row_if : (room : Bool) → ℤ → ℤ → PlaceAnswer → List ℕ → ℤ × List ℕ
-row_if false body frame answer before = (number_of ShortBuffer, before)
+abbrev pub row_if : (room : Bool) → ℤ → ℤ → PlaceAnswer → List ℕ → Result ⊤ Refusal × List ℕ
+row_if false body frame answer before = (Err ShortBuffer, before)
 row_if true body frame answer before = answer_written body frame answer before
 
--- the status, and the bytes that are left; the place is Table 1's (02, Item 1)
-unfoldable pub row_written : Date → ℤ → ℤ → List ℕ → ℤ × List ℕ
+-- what a row call tells, and the bytes that are left; the place is Table 1's (02, Item 1)
+unfoldable pub row_written : Date → ℤ → ℤ → List ℕ → Result ⊤ Refusal × List ℕ
 row_written date body frame before = row_if (leb row_size (length before)) body frame (place_answer date row_table body frame) before
+
+-- its status: document 01's number of a refusal, or 0
+abbrev pub row_status : Result ⊤ Refusal → ℤ
+row_status (Ok found) = pos 0
+row_status (Err r) = number_of r

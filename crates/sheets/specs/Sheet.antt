@@ -1,7 +1,8 @@
 -- Document 01, "Rows and sheets": "A sheet fills rows for start, start + step, and so on, sums taken exactly"; refusal 10, then 8.
-use Rattle.std.specs.Prelude.{Bool, true, false, ◌&&◌, List, ◌++◌, ℕ, zero, suc, ◌+◌, ◌*◌, leb, ℤ, pos, nat_abs, ◌*ℤ◌, length, drop}
+use Rattle.std.specs.Prelude.{Bool, true, false, ◌&&◌, List, ◌++◌, ℕ, zero, suc, ◌+◌, ◌*◌, leb, ℤ, pos, nat_abs, ◌*ℤ◌, length, drop, Result, Ok, Err}
 use Rattle.integers.specs.Range.{is_from_to}
 use Rattle.integers.specs.Buffer.{blocks}
+use Rattle.refusals.specs.declared.Refusal.{Refusal}
 use Rattle.refusals.specs.declared.Refusal.TheVariants.{ShortBuffer, BadCount}
 use Rattle.refusals.specs.Number.{number_of}
 use Rattle.dates.specs.declared.Date.{Date}
@@ -10,7 +11,6 @@ use Rattle.places.specs.declared.PlaceAnswer.{PlaceAnswer}
 use Rattle.places.specs.declared.PlaceAnswer.TheVariants.{Found, Refused}
 use Rattle.places.specs.Answer.{place_after}
 use Rattle.rows.specs.Fields.{row_size, row_table, status_at}
-use Rattle.sheets.specs.declared.SheetAnswer.{SheetAnswer}
 use Rattle.sheets.specs.Row.{bytes_for}
 
 -- the answer of row k, k counted from 0: "each row stands by itself"
@@ -37,19 +37,25 @@ good_of start step body frame (suc n) = good_of start step body frame n + one_if
 unfoldable pub is_sheet : ℤ → ℤ → Bool
 is_sheet step count = is_step step && is_from_to (pos 0) (pos 400) count
 
-abbrev pub answered : ℤ → ℕ → SheetAnswer
-answered status good = record { status = status; good = good }
+-- by whether it is a sheet, and whether there is room for its rows: 10 comes first, then 8, "buffer untouched"
+abbrev pub sheet_if : (is_sheet room : Bool) → Date → ℤ → ℕ → ℤ → ℤ → List ℕ → Result ℕ Refusal × List ℕ
+sheet_if false room start step n body frame before = (Err BadCount, before)
+sheet_if true false start step n body frame before = (Err ShortBuffer, before)
+sheet_if true true start step n body frame before = (Ok (good_of start step body frame n), rows_of start step body frame n ++ drop (row_size * n) before)
 
--- by whether it is a sheet, and whether there is room for its rows: 10 comes first, then 8, "buffer untouched, count 0"
-abbrev pub sheet_if : (is_sheet room : Bool) → Date → ℤ → ℕ → ℤ → ℤ → List ℕ → SheetAnswer × List ℕ
-sheet_if false room start step n body frame before = (answered (number_of BadCount) 0, before)
-sheet_if true false start step n body frame before = (answered (number_of ShortBuffer) 0, before)
-sheet_if true true start step n body frame before = (answered (pos 0) (good_of start step body frame n), rows_of start step body frame n ++ drop (row_size * n) before)
-
--- the answer, and the bytes that are left
-unfoldable pub sheet_written : Date → ℤ → ℤ → ℤ → ℤ → List ℕ → SheetAnswer × List ℕ
+-- how many rows have status 0, or the refusal; and the bytes that are left
+unfoldable pub sheet_written : Date → ℤ → ℤ → ℤ → ℤ → List ℕ → Result ℕ Refusal × List ℕ
 sheet_written start step count body frame before =
     sheet_if (is_sheet step count) (leb (row_size * nat_abs count) (length before)) start step (nat_abs count) body frame before
+
+-- document 01's number for the sheet as a whole, and how many of its rows have status 0: with a refusal "count 0"
+abbrev pub sheet_status : Result ℕ Refusal → ℤ
+sheet_status (Ok good) = pos 0
+sheet_status (Err r) = number_of r
+
+abbrev pub sheet_good : Result ℕ Refusal → ℕ
+sheet_good (Ok good) = good
+sheet_good (Err r) = 0
 
 -- how many of the first n rows of a buffer have status 0
 abbrev pub one_for : ℕ → ℕ

@@ -1,11 +1,11 @@
 -- `sheet` answers, and leaves its bytes, as the definition says.
 -- Its two tests are the definition's, and `fill` leaves the rows.
 use mathlib.Core.Bool.{true}
-use mathlib.Core.Path.{◌≡◌, refl, sym, ap, ◌∙◌}
+use mathlib.Core.Path.{◌≡◌, refl, sym, ◌∙◌}
 use native.Mathlib.Omega.{arith}
-use lib.IntN.{ℤ, pos}
-use Rattle.integers.proofs.Cast.{read, back, back_ok, cast_fits}
-use Rattle.sheets.specs.Sheet.{answered, is_sheet, sheet_written}
+use Rattle.std.specs.Prelude.{Ok}
+use Rattle.integers.proofs.Cast.{read, back, cast_fits}
+use Rattle.sheets.specs.Sheet.{is_sheet, sheet_written}
 use Rattle.sheets.proofs.Laws.{no_sheet, sheet_short, sheet_by, Taken, taken}
 use Rattle.sheets.proofs.sheet.Goals as goal
 use Rattle.sheets.proofs.sheet.Goals.{Else-not-is_sheet, Start}
@@ -16,8 +16,7 @@ as_read s = λ i. sheet_written s.args.start (back s.args.step s.ranges.step i) 
 
 pub returns-then-not-is_sheet : goal.returns-then-not-is_sheet
 returns-then-not-is_sheet c =
-    ap (λ (n : ℤ). (answered n 0, c.args.bytes.now)) (back_ok c.number.result c.number.type_inv ∙ c.number.ensures)
-    ∙ sym (no_sheet c.args.start (read c.args.step) (read c.args.body) (read c.args.frame) (read c.args.count) c.args.bytes.now (sym c.is_sheet.ensures ∙ c.if-not-is_sheet.true))
+    sym (no_sheet c.args.start (read c.args.step) (read c.args.body) (read c.args.frame) (read c.args.count) c.args.bytes.now (sym c.is_sheet.ensures ∙ c.if-not-is_sheet.true))
     ∙ as_read (goal.at.returns-then-not-is_sheet c).Start
 
 -- past the first test it is a sheet
@@ -40,8 +39,7 @@ overflow_mul-n c =
 pub returns-then-bytes-n : goal.returns-then-bytes-n
 returns-then-bytes-n c =
     let first = (goal.at.returns-then-bytes-n c).Else-not-is_sheet in
-    ap (λ (n : ℤ). (answered n 0, c.args.bytes.now)) (back_ok c.number-then-bytes-n.result c.number-then-bytes-n.type_inv ∙ c.number-then-bytes-n.ensures)
-    ∙ sym (sheet_short c.args.start (read c.args.step) (read c.args.body) (read c.args.frame) (read c.args.count) c.args.bytes.now (is first) c.if-bytes-n.true)
+    sym (sheet_short c.args.start (read c.args.step) (read c.args.body) (read c.args.frame) (read c.args.count) c.args.bytes.now (is first) c.if-bytes-n.true)
     ∙ as_read (goal.at.returns-then-bytes-n c).Start
 
 pub fill-requires : goal.fill-requires
@@ -52,6 +50,6 @@ fill-requires c =
 pub returns : goal.returns
 returns c =
     let first = (goal.at.returns c).Else-not-is_sheet in
-    (λ i. (answered (pos 0) (c.fill.ensures.1 i), c.fill.ensures.0 i))
+    (λ i. (Ok (c.fill.ensures.1 i), c.fill.ensures.0 i))
     ∙ sym (sheet_by c.args.start (read c.args.step) (read c.args.body) (read c.args.frame) (read c.args.count) c.args.bytes.now (is first) c.if-bytes-n.false)
     ∙ as_read (goal.at.returns c).Start
