@@ -124,7 +124,7 @@ pub fn angle_of(answer: AnomalyAnswer) -> CAngle
             angle: a.millionths(),
         },
         AnomalyAnswer::Refused(r) => CAngle {
-            status: refusals::number(r),
+            status: r.number(),
             angle: 0,
         },
     }
@@ -136,7 +136,7 @@ pub fn elements_of(answer: ElementsAnswer) -> CElements
     match answer {
         ElementsAnswer::Found(x) => found_of(x),
         ElementsAnswer::Refused(r) => CElements {
-            status: refusals::number(r),
+            status: r.number(),
             a: 0,
             e: 0,
             inclination: 0,
@@ -184,7 +184,7 @@ pub fn counts_of(answer: PlaceAnswer) -> CVector
     match answer {
         PlaceAnswer::Found(_, p) => three_counts(0, p),
         PlaceAnswer::Refused(r) => three_counts(
-            refusals::number(r),
+            r.number(),
             frames::as_coordinates([0, 0, 0]),
         ),
     }
@@ -195,7 +195,7 @@ pub fn vector_of(turned: Turned) -> CVector
 {
     match turned {
         Turned::Vector(p) => three_counts(0, p),
-        Turned::Refused(r) => three_counts(refusals::number(r), frames::as_coordinates([0, 0, 0])),
+        Turned::Refused(r) => three_counts(r.number(), frames::as_coordinates([0, 0, 0])),
     }
 }
 
@@ -215,7 +215,7 @@ pub fn au_of(answer: AuAnswer) -> CPlace
 {
     match answer {
         AuAnswer::InAu(p) => three_doubles(0, p),
-        AuAnswer::Refused(r) => three_doubles(refusals::number(r), projector::nowhere()),
+        AuAnswer::Refused(r) => three_doubles(r.number(), projector::nowhere()),
     }
 }
 
@@ -240,7 +240,7 @@ pub fn read_of(answer: ReadAnswer) -> CRow
     match answer {
         ReadAnswer::Found(row) => fields_of(row),
         ReadAnswer::Refused(r) => CRow {
-            status: refusals::number(r),
+            status: r.number(),
             row_status: 0,
             body: 0,
             frame: 0,
@@ -257,7 +257,7 @@ pub fn written_of(answer: Written) -> i64
 {
     match answer {
         Written::Done => 0,
-        Written::Refused(r) => refusals::number(r),
+        Written::Refused(r) => r.number(),
     }
 }
 
@@ -280,7 +280,7 @@ pub fn mark_of(answer: MarkAnswer) -> CMark
             row: place,
         },
         MarkAnswer::Refused(r) => CMark {
-            status: refusals::number(r),
+            status: r.number(),
             row: 0,
         },
     }
@@ -301,6 +301,6 @@ pub fn viewing_of(answer: ViewingAnswer) -> CViewing
 {
     match answer {
         ViewingAnswer::Found(minutes, looked) => searched(0, minutes, looked),
-        ViewingAnswer::Refused(r, looked) => searched(refusals::number(r), 0, looked),
+        ViewingAnswer::Refused(r, looked) => searched(r.number(), 0, looked),
     }
 }

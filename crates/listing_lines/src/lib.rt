@@ -166,7 +166,7 @@ fn numbers_of(body: i64, frame: i64, answer: PlaceAnswer) -> [i64; 7]
 {
     match answer {
         PlaceAnswer::Found(minute, p) => [minute, body, frame, 0, p.x, p.y, p.z],
-        PlaceAnswer::Refused(refusal) => [0, 0, 0, refusals::number(refusal), 0, 0, 0],
+        PlaceAnswer::Refused(refusal) => [0, 0, 0, refusal.number(), 0, 0, 0],
     }
 }
 
@@ -186,7 +186,7 @@ fn answer_to(sines: &[u32; 901], request: Option<Request>) -> [i64; 7]
             let answer = places::place_after(sines, date, DEFAULT_TABLE, 0, body, frame);
             numbers_of(body, frame, answer)
         }
-        None => [0, 0, 0, refusals::number(Refusal::NoRow), 0, 0, 0],
+        None => [0, 0, 0, Refusal::NoRow.number(), 0, 0, 0],
     }
 }
 

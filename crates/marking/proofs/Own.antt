@@ -9,7 +9,7 @@ use lib.Dec.{T}
 use lib.IntN.{ℤ, pos, nat_abs, ◌*ℤ◌}
 use lib.ListN.{length, take, drop, take-append-drop}
 use lib.Pow.{are_bytes}
-use Rattle.std.specs.Prelude.{⊤, Some, None, Result, Ok}
+use Rattle.std.specs.Prelude.{⊤, Some, None, Result, Ok, Err}
 use Rattle.integers.proofs.Ring.{abs_itself, abs_none}
 use Rattle.refusals.specs.declared.Refusal.{Refusal}
 use Rattle.refusals.specs.Number.{number_of}
@@ -18,12 +18,9 @@ use Rattle.dates.specs.declared.Date.{Date}
 use Rattle.dates.specs.declared.Date.TheVariants.{Minutes}
 use Rattle.layouts.proofs.Layouts.{bytes_parts}
 use Rattle.frames.specs.declared.Coordinates.{Coordinates}
-use Rattle.places.specs.declared.PlaceAnswer.{PlaceAnswer}
-use Rattle.places.specs.declared.PlaceAnswer.TheVariants.{Found, Refused}
 use Rattle.places.specs.Answer.{place_after, place_answer}
 use Rattle.places.proofs.Answers.{found_again}
 use Rattle.rows.specs.declared.Row.{Row}
-use Rattle.rows.specs.declared.ReadAnswer.TheVariants.{Found as FoundRow}
 use Rattle.rows.specs.Fields.{row_size, row_table, good_row, bare_row, row_bytes}
 use Rattle.rows.specs.Answer.{read_of}
 use Rattle.rows.proofs.RoundTrip.{what_is_read_is_a_row, what_is_read_has_its_size, its_bytes_are_those_read}
@@ -38,11 +35,11 @@ use Rattle.marking.proofs.Rows.{RightRow, WrongRow, refused_one}
 use Rattle.marking.proofs.Marks.{Marked, good_says_that_every_row_is_right, good_where_every_row_is_right, the_first_wrong_row_is_named}
 
 -- ---- bytes that read as the row of an answer of ours: right at any allowance where a place was found, else wrong
-module _ (allowed : ℕ) (date : Date) (offset body frame : ℤ) (bytes : List ℕ) (read : read_of bytes ≡ FoundRow (row_for body frame (place_after date row_table offset body frame))) where
-  a_found_answer_is_right : (m : ℤ) (p : Coordinates) → place_after date row_table offset body frame ≡ Found m p → RightRow allowed bytes
+module _ (allowed : ℕ) (date : Date) (offset body frame : ℤ) (bytes : List ℕ) (read : read_of bytes ≡ Ok (row_for body frame (place_after date row_table offset body frame))) where
+  a_found_answer_is_right : (m : ℤ) (p : Coordinates) → place_after date row_table offset body frame ≡ Ok (m, p) → RightRow allowed bytes
   a_found_answer_is_right m p e =
       let row = good_row body frame m p.x p.y p.z in
-      let taken : read_of bytes ≡ FoundRow row = read ∙ ap (λ (a : PlaceAnswer). FoundRow (row_for body frame a)) e in
+      let taken : read_of bytes ≡ Ok row = read ∙ ap (λ (a : Result (ℤ × Coordinates) Refusal). Ok (row_for body frame a)) e in
       record {
         row = row;
         read = taken;
@@ -52,10 +49,10 @@ module _ (allowed : ℕ) (date : Date) (offset body frame : ℤ) (bytes : List �
         near = record { x_near = omega (arith, abs_itself p.x); y_near = omega (arith, abs_itself p.y); z_near = omega (arith, abs_itself p.z) };
       }
 
-  a_refused_answer_is_wrong : (r : Refusal) → place_after date row_table offset body frame ≡ Refused r → WrongRow allowed bytes
+  a_refused_answer_is_wrong : (r : Refusal) → place_after date row_table offset body frame ≡ Err r → WrongRow allowed bytes
   a_refused_answer_is_wrong r e =
       let row = bare_row (number_of r) in
-      let taken : read_of bytes ≡ FoundRow row = read ∙ ap (λ (a : PlaceAnswer). FoundRow (row_for body frame a)) e in
+      let taken : read_of bytes ≡ Ok row = read ∙ ap (λ (a : Result (ℤ × Coordinates) Refusal). Ok (row_for body frame a)) e in
       refused_one row taken (refused_by_status row (what_is_read_is_a_row bytes row taken) (number_not_0 r))
 
 -- ---- what a row call of ours leaves without a refusal is right at any allowance
@@ -65,17 +62,17 @@ what_a_row_call_leaves_is_right allowed date body frame before after h e = go (p
     written : answer_written body frame (place_answer date row_table body frame) before ≡ (Ok tt, after)
     written = sym (row_by date body frame before h) ∙ e
 
-    read : read_of after ≡ FoundRow (row_for body frame (place_answer date row_table body frame))
+    read : read_of after ≡ Ok (row_for body frame (place_answer date row_table body frame))
     read = ap (λ (w : Result ⊤ Refusal × List ℕ). read_of w.1) (sym e) ∙ a_row_call_leaves_a_row date body frame before h
 
-    go : (a : PlaceAnswer) → place_answer date row_table body frame ≡ a → RightRow allowed after
-    go (Found m p) f = a_found_answer_is_right allowed date (pos 0) body frame after read m p f
-    go (Refused r) f = absurd (number_not_0 r (ap row_status (ap row_told (sym f) ∙ ap (λ (w : Result ⊤ Refusal × List ℕ). w.0) written)))
+    go : (a : Result (ℤ × Coordinates) Refusal) → place_answer date row_table body frame ≡ a → RightRow allowed after
+    go (Ok (m, p)) f = a_found_answer_is_right allowed date (pos 0) body frame after read m p f
+    go (Err r) f = absurd (number_not_0 r (ap row_status (ap row_told (sym f) ∙ ap (λ (w : Result ⊤ Refusal × List ℕ). w.0) written)))
 
 -- ---- "equal to our own rows": our row call for the row's own body, frame and minute tells of no refusal and leaves the row's bytes
 pub record OurOwn (bytes : List ℕ) : Type 0 where
   pub row : Row
-  pub read : read_of bytes ≡ FoundRow row
+  pub read : read_of bytes ≡ Ok row
   pub left : (before : List ℕ) → row_size ≤ length before → row_written (Minutes row.minutes) row.body row.frame before ≡ (Ok tt, take row_size bytes ++ drop row_size before)
 
 right_is_our_own : (bytes : List ℕ) → T (are_bytes bytes) → RightRow 0 bytes → OurOwn bytes
@@ -98,7 +95,7 @@ right_is_our_own bytes t r = record { row = row; read = r.read; left = left }
     left : (before : List ℕ) → row_size ≤ length before → row_written (Minutes row.minutes) row.body row.frame before ≡ (Ok tt, take row_size bytes ++ drop row_size before)
     left before h =
         row_by (Minutes row.minutes) row.body row.frame before h
-        ∙ ap (λ (a : PlaceAnswer). answer_written row.body row.frame a before) r.place
+        ∙ ap (λ (a : Result (ℤ × Coordinates) Refusal). answer_written row.body row.frame a before) r.place
         ∙ ap (λ (b : List ℕ). (Ok tt, b ++ drop row_size before)) (ap row_bytes (sym equal) ∙ its_bytes_are_those_read bytes row r.read t)
 
 our_own_is_right : (allowed : ℕ) (bytes : List ℕ) → OurOwn bytes → RightRow allowed bytes
@@ -131,7 +128,7 @@ module _ (start : Date) (step count body frame : ℤ) (before : List ℕ) (is : 
       good_where_every_row_is_right after count allowed marked (λ k l. right_at k l (no_row_is_refused start step count body frame before is room e k l))
 
   -- and of one with a refused row the first refused one is named
-  pub the_first_refused_row_is_named : (k : ℕ) (r : Refusal) → k < nat_abs count → answer_at start step body frame k ≡ Refused r → ((j : ℕ) → j < k → FoundAt start step body frame j) → mark_answer after count allowed ≡ Ok (Some (suc k))
+  pub the_first_refused_row_is_named : (k : ℕ) (r : Refusal) → k < nat_abs count → answer_at start step body frame k ≡ Err r → ((j : ℕ) → j < k → FoundAt start step body frame j) → mark_answer after count allowed ≡ Ok (Some (suc k))
   the_first_refused_row_is_named k r l e f =
       the_first_wrong_row_is_named after count allowed marked k
       (record {

@@ -18,17 +18,15 @@ use Rattle.refusals.specs.declared.Refusal.{Refusal}
 use Rattle.frames.specs.declared.Coordinates.{Coordinates}
 use Rattle.frames.specs.Answer.{as_coordinates}
 use Rattle.frames.specs.Frame.{turned_between}
-use Rattle.places.specs.declared.PlaceAnswer.TheVariants.{Found}
-use Rattle.places.specs.Answer.{hae_at, earth_at}
+use Rattle.places.specs.Answer.{place_coordinates, hae_at, earth_at}
 use Rattle.places.proofs.Answers.{place_found}
 use Rattle.rows.specs.declared.Row.{Row}
-use Rattle.rows.specs.declared.ReadAnswer.{ReadAnswer}
-use Rattle.rows.specs.declared.ReadAnswer.TheVariants.{Found as FoundRow, Refused as NoRowThere}
 use Rattle.rows.specs.Fields.{row_table, is_good, is_refused, is_row}
 use Rattle.rows.specs.Answer.{read_of}
 use Rattle.rows.proofs.RoundTrip.{what_is_read_is_a_row}
 use Rattle.rows.proofs.Taken.{IsGood, good_is, good_or_refused, good_by_status, refused_by_status, status_0_is_no_refusal}
 use Rattle.marking.specs.Wrong.{is_off, our_answer, is_off_by, is_wrong}
+use Rattle.std.specs.Prelude.{Err, Ok, Result}
 
 -- ---- a row that is right: a good one, with every coordinate as near to ours as allowed
 pub record Near (allowed : ℕ) (row : Row) (ours : Coordinates) : Type 0 where
@@ -38,10 +36,10 @@ pub record Near (allowed : ℕ) (row : Row) (ours : Coordinates) : Type 0 where
 
 pub record RightRow (allowed : ℕ) (bytes : List ℕ) : Type 0 where
   pub row : Row
-  pub read : read_of bytes ≡ FoundRow row
+  pub read : read_of bytes ≡ Ok row
   pub good : T (is_good row)
   pub ours : Coordinates
-  pub place : our_answer row ≡ Found row.minutes ours
+  pub place : our_answer row ≡ Ok (row.minutes, ours)
   pub near : Near allowed row ours
 
 -- ---- and one that is wrong, in the order of 02
@@ -51,14 +49,14 @@ pub data Further (allowed : ℕ) (row : Row) (ours : Coordinates) : Type 0 where
   z_off : allowed < nat_abs (row.z -ℤ ours.z) → Further allowed row ours
 
 pub data WrongRow (allowed : ℕ) (bytes : List ℕ) : Type 0 where
-  no_row : (r : Refusal) → read_of bytes ≡ NoRowThere r → WrongRow allowed bytes
-  refused_one : (row : Row) → read_of bytes ≡ FoundRow row → T (is_refused row) → WrongRow allowed bytes
-  further_off : (row : Row) (ours : Coordinates) → read_of bytes ≡ FoundRow row → T (is_good row) → our_answer row ≡ Found row.minutes ours → Further allowed row ours → WrongRow allowed bytes
+  no_row : (r : Refusal) → read_of bytes ≡ Err r → WrongRow allowed bytes
+  refused_one : (row : Row) → read_of bytes ≡ Ok row → T (is_refused row) → WrongRow allowed bytes
+  further_off : (row : Row) (ours : Coordinates) → read_of bytes ≡ Ok row → T (is_good row) → our_answer row ≡ Ok (row.minutes, ours) → Further allowed row ours → WrongRow allowed bytes
 
 -- ---- the place of a good row is never refused
 pub record OurPlace (row : Row) : Type 0 where
   pub ours : Coordinates
-  pub is : our_answer row ≡ Found row.minutes ours
+  pub is : our_answer row ≡ Ok (row.minutes, ours)
 
 pub a_good_row_has_its_place : (row : Row) → IsGood row → OurPlace row
 a_good_row_has_its_place row g =
@@ -108,19 +106,19 @@ module _ (allowed : ℕ) (row : Row) (ours : Coordinates) where
 
 -- ---- a row that a reader took, by its status
 module _ (allowed : ℕ) (row : Row) where
-  refused_is_wrong : T (is_refused row) → is_wrong allowed (FoundRow row) ≡ true
+  refused_is_wrong : T (is_refused row) → is_wrong allowed (Ok row) ≡ true
   unfolding is_wrong
   refused_is_wrong t = ap (λ (b : Bool). b || is_off_by allowed row (our_answer row)) (is-yes (is_refused row) t)
 
-  good_goes_by_its_place : IsGood row → is_wrong allowed (FoundRow row) ≡ is_off_by allowed row (our_answer row)
+  good_goes_by_its_place : IsGood row → is_wrong allowed (Ok row) ≡ is_off_by allowed row (our_answer row)
   unfolding is_wrong
   good_goes_by_its_place g = ap (λ (b : Bool). b || is_off_by allowed row (our_answer row)) (status_0_is_no_refusal row g.no_refusal)
 
   -- a status that is not 0 tells a refused row from a good one
-  pub wrong_by_status : T (is_row row) → is_wrong allowed (FoundRow row) ≡ (not (same row.status (pos 0)) || is_off_by allowed row (our_answer row))
+  pub wrong_by_status : T (is_row row) → is_wrong allowed (Ok row) ≡ (not (same row.status (pos 0)) || is_off_by allowed row (our_answer row))
   wrong_by_status t = go (same row.status (pos 0)) refl
     where
-      go : (b : Bool) → same row.status (pos 0) ≡ b → is_wrong allowed (FoundRow row) ≡ (not (same row.status (pos 0)) || is_off_by allowed row (our_answer row))
+      go : (b : Bool) → same row.status (pos 0) ≡ b → is_wrong allowed (Ok row) ≡ (not (same row.status (pos 0)) || is_off_by allowed row (our_answer row))
       go true e = good_goes_by_its_place (good_is row (good_by_status row t (same_eq row.status (pos 0) (subst⁻¹ T e tt)))) ∙ (λ i. not (sym e i) || is_off_by allowed row (our_answer row))
       go false e = refused_is_wrong (refused_by_status row t (λ z. differ (sym e ∙ same_yes row.status (pos 0) z))) ∙ (λ i. not (sym e i) || is_off_by allowed row (our_answer row))
 
@@ -133,7 +131,7 @@ module _ (allowed : ℕ) (bytes : List ℕ) where
   unfolding is_wrong
   wrong_or_right = go (read_of bytes) refl
     where
-      by : (row : Row) (p : OurPlace row) → read_of bytes ≡ FoundRow row → T (is_good row) → OffOrNear allowed row p.ours → WrongOrRight
+      by : (row : Row) (p : OurPlace row) → read_of bytes ≡ Ok row → T (is_good row) → OffOrNear allowed row p.ours → WrongOrRight
       by row p e g o =
           let test = ap (is_wrong allowed) e ∙ good_goes_by_its_place allowed row (good_is row g) ∙ ap (is_off_by allowed row) p.is in
           elim o [
@@ -141,13 +139,13 @@ module _ (allowed : ℕ) (bytes : List ℕ) where
             | inr n ↦ inr (test ∙ n.0, record { row = row; read = e; good = g; ours = p.ours; place = p.is; near = n.1 })
           ]
 
-      taken : (row : Row) → read_of bytes ≡ FoundRow row → T (is_good row) ⊎ T (is_refused row) → WrongOrRight
+      taken : (row : Row) → read_of bytes ≡ Ok row → T (is_good row) ⊎ T (is_refused row) → WrongOrRight
       taken row e (inl g) = let p = a_good_row_has_its_place row (good_is row g) in by row p e g (off_or_near allowed row p.ours)
       taken row e (inr r) = inl (ap (is_wrong allowed) e ∙ refused_is_wrong allowed row r, refused_one row e r)
 
-      go : (a : ReadAnswer) → read_of bytes ≡ a → WrongOrRight
-      go (NoRowThere r) e = inl (ap (is_wrong allowed) e, no_row r e)
-      go (FoundRow row) e = taken row e (good_or_refused row (what_is_read_is_a_row bytes row e))
+      go : (a : Result Row Refusal) → read_of bytes ≡ a → WrongOrRight
+      go (Err r) e = inl (ap (is_wrong allowed) e, no_row r e)
+      go (Ok row) e = taken row e (good_or_refused row (what_is_read_is_a_row bytes row e))
 
   pub not_wrong_and_right : WrongRow allowed bytes → RightRow allowed bytes → ⊥
   not_wrong_and_right (no_row r e) right = let f = sym e ∙ right.read in let z : ◌≡◌ {A = ℕ} 0 1 = cc in absurd (omega arith)
@@ -160,7 +158,7 @@ module _ (allowed : ℕ) (bytes : List ℕ) where
       let f = sym e ∙ right.read in
       let same : row ≡ right.row = cc in
       let h = sym p ∙ ap our_answer same ∙ right.place in
-      let ours_same : ours ≡ right.ours = cc in
+      let ours_same : ours ≡ right.ours = ap place_coordinates h in
       not_off_and_near allowed right.row right.ours (subst₂ (Further allowed) same ours_same off) right.near
 
   pub wrong_is : is_wrong allowed (read_of bytes) ≡ true → WrongRow allowed bytes

@@ -5,17 +5,16 @@
 ghost use Rattle.std.specs.Prelude.{◌≡◌, ◌+◌, ◌*◌, ◌≤◌, length};
 ghost use Rattle.std.specs.Option.{MatchOption};
 ghost use Rattle.integers.specs.First.{first_picked};
-ghost use Rattle.angles.specs.Sines.{sine_entries};
 ghost use Rattle.rows.specs.Fields.{row_size};
 ghost use Rattle.rows.specs.Answer.{read_of};
 ghost use Rattle.marking.specs.Wrong.{is_further, is_off, our_answer, is_off_by, is_wrong, is_wrong_at};
 ghost use Rattle.marking.specs.Mark.{is_markable, mark_answer};
 
+use angles::Sines;
 use dates::Date;
 use frames::Coordinates;
-use places::PlaceAnswer;
 use refusals::Refusal;
-use rows::{ROW_BYTES, ROW_TABLE, ReadAnswer, Row};
+use rows::{ROW_BYTES, ROW_TABLE, Row};
 
 // Whether two coordinates are further apart than allowed.
 fn is_further(allowed: u64, theirs: i64, ours: i64) -> bool
@@ -34,35 +33,32 @@ fn is_off(allowed: u64, row: Row, ours: Coordinates) -> bool
 }
 
 // The same by the row's own place, which we work out. No row of status 0 has one that we refuse.
-fn is_off_ours(sines: &[u32; 901], allowed: u64, row: Row) -> bool
-    requires { sines.now ≡ sine_entries }
+fn is_off_ours(sines: &Sines, allowed: u64, row: Row) -> bool
     ensures { result ≡ is_off_by allowed row (our_answer row) }
 {
     let date = Date::Minutes(row.minutes);
     match places::place_after(sines, date, ROW_TABLE, 0, row.body, row.frame) {
-        PlaceAnswer::Found(_, ours) => is_off(allowed, row, ours),
-        PlaceAnswer::Refused(_) => true,
+        Ok((_, ours)) => is_off(allowed, row, ours),
+        Err(_) => true,
     }
 }
 
 // Whether the row at the start of these bytes is wrong.
-fn is_wrong(sines: &[u32; 901], allowed: u64, bytes: &[u8]) -> bool
-    requires { sines.now ≡ sine_entries }
+fn is_wrong(sines: &Sines, allowed: u64, bytes: &[u8]) -> bool
     ensures { result ≡ is_wrong allowed (read_of bytes.now) }
 {
     match rows::read_row(bytes) {
-        ReadAnswer::Found(row) => {
+        Ok(row) => {
             let is_refused = row.status != 0;
             is_refused || is_off_ours(sines, allowed, row)
         }
-        ReadAnswer::Refused(_) => true,
+        Err(_no_row) => true,
     }
 }
 
 // The number of the first wrong row, counted from 0, if there is one.
-fn first_wrong(sines: &[u32; 901], allowed: u64, count: usize, bytes: &[u8]) -> Option<usize>
-    requires sines_value { sines.now ≡ sine_entries }
-    requires count_bound { (count ≤ 400) × (row_size * count ≤ length bytes.now) }
+fn first_wrong(sines: &Sines, allowed: u64, count: usize, bytes: &[u8]) -> Option<usize>
+    requires { (count ≤ 400) × (row_size * count ≤ length bytes.now) }
     ensures { MatchOption result (first_picked (is_wrong_at allowed bytes.now) count ≡ 0) (λ k. first_picked (is_wrong_at allowed bytes.now) count ≡ k + 1) }
 {
     (0..count).find(|&k| is_wrong(sines, allowed, &bytes[ROW_BYTES * k..]))
@@ -85,6 +81,6 @@ pub fn mark(bytes: &[u8], count: i64, allowed: i64) -> Result<Option<usize>, Ref
     if bytes.len() < ROW_BYTES * n {
         return Err(Refusal::ShortBuffer);
     }
-    let sines = angles::sines();
+    let sines = Sines::new();
     Ok(first_wrong(&sines, allowed as u64, n, bytes).map(|k| k + 1))
 }

@@ -179,7 +179,7 @@ pub fn put_refused(refusal: Refusal, bytes: &mut [u8])
     ensures { bytes.new ≡ refused_bytes (number_of refusal) ++ drop row_size bytes.old }
 {
     let row = Row {
-        status: refusals::number(refusal),
+        status: refusal.number(),
         ..Row::default()
     };
     put_row(row, bytes);

@@ -11,7 +11,7 @@ use lib.Dec.{T, leb}
 use lib.IntN.{ℤ, pos, nat_abs}
 use lib.ListN.{length, drop}
 use mir.Facts.{and_yes}
-use Rattle.std.specs.Prelude.{Ok, Err}
+use Rattle.std.specs.Prelude.{Ok, Err, Result}
 use Rattle.std.specs.Result.{is_ok}
 use Rattle.integers.specs.Range.{Within, FromTo, is_from_to}
 use Rattle.integers.proofs.Ranges.{of_test, range_most}
@@ -21,35 +21,36 @@ use Rattle.refusals.specs.Number.{number_of}
 use Rattle.dates.specs.declared.Date.{Date}
 use Rattle.dates.specs.Moment.{is_step}
 use Rattle.dates.proofs.Laws.{step_small}
-use Rattle.places.specs.declared.PlaceAnswer.{PlaceAnswer}
-use Rattle.places.specs.declared.PlaceAnswer.TheVariants.{Found, Refused}
-use Rattle.places.specs.Answer.{place_answer, place_status}
+use Rattle.places.specs.Answer.{place_answer}
 use Rattle.rows.specs.Fields.{row_size, row_table, good_row}
 use Rattle.rows.proofs.RoundTrip.{a_row_has_its_size, a_refused_row_has_its_size}
 use Rattle.sheets.specs.Row.{bytes_for, row_told, answer_written, row_if, row_written, row_status}
 use Rattle.sheets.specs.Sheet.{answer_at, rows_of, one_if, good_of, is_sheet, sheet_if, sheet_written}
+use Rattle.frames.specs.declared.Coordinates.{Coordinates}
+use Rattle.refusals.specs.declared.Refusal.{Refusal}
+use Rattle.refusals.specs.Number.{status_of}
 
-pub bytes_long : (body frame : ℤ) (answer : PlaceAnswer) → length (bytes_for body frame answer) ≡ row_size
-bytes_long body frame (Found m p) = a_row_has_its_size (good_row body frame m p.x p.y p.z)
-bytes_long body frame (Refused r) = a_refused_row_has_its_size (number_of r)
+pub bytes_long : (body frame : ℤ) (answer : Result (ℤ × Coordinates) Refusal) → length (bytes_for body frame answer) ≡ row_size
+bytes_long body frame (Ok (m, p)) = a_row_has_its_size (good_row body frame m p.x p.y p.z)
+bytes_long body frame (Err r) = a_refused_row_has_its_size (number_of r)
 
 -- the status of an answer's row is the number of the answer
-pub row_status_is : (answer : PlaceAnswer) → row_status (row_told answer) ≡ place_status answer
-row_status_is (Found m p) = refl
-row_status_is (Refused r) = refl
+pub row_status_is : (answer : Result (ℤ × Coordinates) Refusal) → row_status (row_told answer) ≡ status_of answer
+row_status_is (Ok (m, p)) = refl
+row_status_is (Err r) = refl
 
 -- an answer counts as a good row where its row call tells of no refusal
-pub one_told : (answer : PlaceAnswer) → is_ok (row_told answer) ≡ true → one_if answer ≡ 1
-one_told (Found m p) e = refl
-one_told (Refused r) e = absurd (differ e)
+pub one_told : (answer : Result (ℤ × Coordinates) Refusal) → is_ok (row_told answer) ≡ true → one_if answer ≡ 1
+one_told (Ok (m, p)) e = refl
+one_told (Err r) e = absurd (differ e)
 
-pub none_told : (answer : PlaceAnswer) → is_ok (row_told answer) ≡ false → one_if answer ≡ 0
-none_told (Found m p) e = absurd (differ (sym e))
-none_told (Refused r) e = refl
+pub none_told : (answer : Result (ℤ × Coordinates) Refusal) → is_ok (row_told answer) ≡ false → one_if answer ≡ 0
+none_told (Ok (m, p)) e = absurd (differ (sym e))
+none_told (Err r) e = refl
 
-pub one_most : (answer : PlaceAnswer) → one_if answer ≤ 1
-one_most (Found m p) = omega arith
-one_most (Refused r) = omega arith
+pub one_most : (answer : Result (ℤ × Coordinates) Refusal) → one_if answer ≤ 1
+one_most (Ok (m, p)) = omega arith
+one_most (Err r) = omega arith
 
 -- ---- the row of a date
 module _ (date : Date) (body frame : ℤ) (before : List ℕ) where

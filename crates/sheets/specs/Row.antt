@@ -5,33 +5,32 @@ use Rattle.refusals.specs.declared.Refusal.{Refusal}
 use Rattle.refusals.specs.declared.Refusal.TheVariants.{ShortBuffer}
 use Rattle.refusals.specs.Number.{number_of}
 use Rattle.dates.specs.declared.Date.{Date}
-use Rattle.places.specs.declared.PlaceAnswer.{PlaceAnswer}
-use Rattle.places.specs.declared.PlaceAnswer.TheVariants.{Found, Refused}
 use Rattle.places.specs.Answer.{place_answer}
 use Rattle.rows.specs.declared.Row.{Row}
 use Rattle.rows.specs.Fields.{row_size, row_table, good_row, bare_row, row_bytes, refused_bytes}
+use Rattle.frames.specs.declared.Coordinates.{Coordinates}
 
 -- the fields of the row of an answer: the place with its minute, or nothing but the refusal's number
-abbrev pub row_for : ℤ → ℤ → PlaceAnswer → Row
-row_for body frame (Found m p) = good_row body frame m p.x p.y p.z
-row_for body frame (Refused r) = bare_row (number_of r)
+abbrev pub row_for : ℤ → ℤ → Result (ℤ × Coordinates) Refusal → Row
+row_for body frame (Ok found) = let p = found.1 in good_row body frame found.0 p.x p.y p.z
+row_for body frame (Err r) = bare_row (number_of r)
 
 -- its bytes
-abbrev pub bytes_for : ℤ → ℤ → PlaceAnswer → List ℕ
-bytes_for body frame (Found m p) = row_bytes (good_row body frame m p.x p.y p.z)
-bytes_for body frame (Refused r) = refused_bytes (number_of r)
+abbrev pub bytes_for : ℤ → ℤ → Result (ℤ × Coordinates) Refusal → List ℕ
+bytes_for body frame (Ok found) = let p = found.1 in row_bytes (good_row body frame found.0 p.x p.y p.z)
+bytes_for body frame (Err r) = refused_bytes (number_of r)
 
 -- what it tells: nothing but that it was found, or the refusal
-abbrev pub row_told : PlaceAnswer → Result ⊤ Refusal
-row_told (Found m p) = Ok tt
-row_told (Refused r) = Err r
+abbrev pub row_told : Result (ℤ × Coordinates) Refusal → Result ⊤ Refusal
+row_told (Ok found) = Ok tt
+row_told (Err r) = Err r
 
 -- that, and the bytes that it leaves: "Bytes after the row stay"
-abbrev pub answer_written : ℤ → ℤ → PlaceAnswer → List ℕ → Result ⊤ Refusal × List ℕ
+abbrev pub answer_written : ℤ → ℤ → Result (ℤ × Coordinates) Refusal → List ℕ → Result ⊤ Refusal × List ℕ
 answer_written body frame answer before = (row_told answer, bytes_for body frame answer ++ drop row_size before)
 
 -- by whether there is room: refusal 8, "buffer untouched"
-abbrev pub row_if : (room : Bool) → ℤ → ℤ → PlaceAnswer → List ℕ → Result ⊤ Refusal × List ℕ
+abbrev pub row_if : (room : Bool) → ℤ → ℤ → Result (ℤ × Coordinates) Refusal → List ℕ → Result ⊤ Refusal × List ℕ
 row_if false body frame answer before = (Err ShortBuffer, before)
 row_if true body frame answer before = answer_written body frame answer before
 

@@ -7,14 +7,13 @@ use Rattle.refusals.specs.declared.Refusal.TheVariants.{ShortBuffer, BadCount}
 use Rattle.refusals.specs.Number.{number_of}
 use Rattle.dates.specs.declared.Date.{Date}
 use Rattle.dates.specs.Moment.{is_step}
-use Rattle.places.specs.declared.PlaceAnswer.{PlaceAnswer}
-use Rattle.places.specs.declared.PlaceAnswer.TheVariants.{Found, Refused}
 use Rattle.places.specs.Answer.{place_after}
 use Rattle.rows.specs.Fields.{row_size, row_table, status_at}
 use Rattle.sheets.specs.Row.{bytes_for}
+use Rattle.frames.specs.declared.Coordinates.{Coordinates}
 
 -- the answer of row k, k counted from 0: "each row stands by itself"
-abbrev pub answer_at : Date → ℤ → ℤ → ℤ → ℕ → PlaceAnswer
+abbrev pub answer_at : Date → ℤ → ℤ → ℤ → ℕ → Result (ℤ × Coordinates) Refusal
 answer_at start step body frame k = place_after start row_table (step *ℤ pos k) body frame
 
 -- its bytes, and those of the first n rows
@@ -25,9 +24,9 @@ abbrev pub rows_of : Date → ℤ → ℤ → ℤ → ℕ → List ℕ
 rows_of start step body frame n = blocks (bytes_at start step body frame) n
 
 -- "how many of its rows have status 0"
-abbrev pub one_if : PlaceAnswer → ℕ
-one_if (Found m p) = 1
-one_if (Refused r) = 0
+abbrev pub one_if : Result (ℤ × Coordinates) Refusal → ℕ
+one_if (Ok (m, p)) = 1
+one_if (Err r) = 0
 
 unfoldable pub good_of : Date → ℤ → ℤ → ℤ → ℕ → ℕ
 good_of start step body frame zero = 0

@@ -3,27 +3,32 @@
 
 ghost use Rattle.std.specs.Prelude.{◌≡◌, ◌++◌, ◌*◌, ◌≤◌, length, drop};
 ghost use Rattle.integers.specs.Range.{Within};
-ghost use Rattle.angles.specs.Sines.{sine_entries};
 ghost use Rattle.rows.specs.Fields.{row_size};
 ghost use Rattle.sheets.specs.Row.{answer_written, row_written};
 ghost use Rattle.sheets.specs.Sheet.{rows_of, good_of, is_sheet, sheet_written};
 
+use angles::Sines;
 use dates::Date;
-use places::PlaceAnswer;
+use frames::Coordinates;
 use refusals::Refusal;
 use rows::{ROW_BYTES, ROW_TABLE};
 
 // The row of an answer into bytes that have room for it; and the refusal, if it is one's.
-fn put_answer(body: i64, frame: i64, answer: PlaceAnswer, bytes: &mut [u8]) -> Result<(), Refusal>
+fn put_answer(
+    body: i64,
+    frame: i64,
+    answer: Result<(i64, Coordinates), Refusal>,
+    bytes: &mut [u8],
+) -> Result<(), Refusal>
     requires { row_size ≤ length bytes.old }
     ensures { (result, bytes.new) ≡ answer_written body frame answer bytes.old }
 {
     match answer {
-        PlaceAnswer::Found(minute, p) => {
+        Ok((minute, p)) => {
             rows::put_good(body, frame, minute, p.x, p.y, p.z, bytes);
             Ok(())
         }
-        PlaceAnswer::Refused(refusal) => {
+        Err(refusal) => {
             rows::put_refused(refusal, bytes);
             Err(refusal)
         }
@@ -37,7 +42,7 @@ pub fn row(date: Date, body: i64, frame: i64, bytes: &mut [u8]) -> Result<(), Re
     if bytes.len() < ROW_BYTES {
         return Err(Refusal::ShortBuffer);
     }
-    let sines = angles::sines();
+    let sines = Sines::new();
     put_answer(
         body,
         frame,
@@ -48,7 +53,7 @@ pub fn row(date: Date, body: i64, frame: i64, bytes: &mut [u8]) -> Result<(), Re
 
 // The rows of a sheet, and how many of them have status 0. A refused row is written as such, and the next is worked out.
 fn fill(
-    sines: &[u32; 901],
+    sines: &Sines,
     start: Date,
     step: i64,
     count: usize,
@@ -56,7 +61,6 @@ fn fill(
     frame: i64,
     bytes: &mut [u8],
 ) -> usize
-    requires sines_value { sines.now ≡ sine_entries }
     requires count_bound { (count ≤ 400) × (row_size * count ≤ length bytes.old) }
     requires within { Within 1000000 step }
     ensures { (bytes.new ≡ rows_of start step body frame count ++ drop (row_size * count) bytes.old) × (result ≡ good_of start step body frame count) }
@@ -96,6 +100,6 @@ pub fn sheet(
     if bytes.len() < ROW_BYTES * n {
         return Err(Refusal::ShortBuffer);
     }
-    let sines = angles::sines();
+    let sines = Sines::new();
     Ok(fill(&sines, start, step, n, body, frame, bytes))
 }

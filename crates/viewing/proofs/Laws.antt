@@ -16,14 +16,14 @@ use Rattle.integers.proofs.Ring.{pos_mono}
 use Rattle.integers.proofs.Same.{same_yes, same_no}
 use Rattle.integers.proofs.Table.{yes, no}
 use Rattle.dates.specs.declared.Date.{Date}
-use Rattle.dates.specs.declared.Moment.{Moment}
-use Rattle.dates.specs.declared.Moment.TheVariants.{Accepted, Refused as RefusedDate}
 use Rattle.dates.specs.Moment.{is_step}
 use Rattle.tables.specs.Table.{Body, is_body, OnTable, interval_of, moment_after}
 use Rattle.tables.proofs.Laws.{first_near, last_near, after_inside, after_is}
 use Rattle.viewing.specs.Hit.{minute_at}
 use Rattle.viewing.specs.Span.{SpanFits}
 use Rattle.viewing.specs.Viewing.{is_search, is_planet, span_of, span_moment}
+use Rattle.std.specs.Prelude.{Err, Ok, Result}
+use Rattle.refusals.specs.declared.Refusal.{Refusal}
 
 -- ---- a planet to look for
 pub record Planet (body : ℤ) : Type 0 where
@@ -70,18 +70,18 @@ module _ {step count : ℤ} (t : Taken step count) where
 
 -- ---- a span that is accepted: its first date is minute m, and its last one is accepted too
 pub record Span (start : Date) (table step count m : ℤ) : Type 0 where
-  pub first_accepted : moment_after start table (pos 0) ≡ Accepted m
+  pub first_accepted : moment_after start table (pos 0) ≡ Ok m
   pub last : ℤ
-  pub last_accepted : moment_after start table (step *ℤ (count -ℤ pos 1)) ≡ Accepted last
+  pub last_accepted : moment_after start table (step *ℤ (count -ℤ pos 1)) ≡ Ok last
 
-pub span_is : (start : Date) (table step count m : ℤ) → span_moment start table step count ≡ Accepted m → Span start table step count m
+pub span_is : (start : Date) (table step count m : ℤ) → span_moment start table step count ≡ Ok m → Span start table step count m
 unfolding span_moment
 span_is start table step count m e = go (moment_after start table (pos 0)) (moment_after start table (step *ℤ (count -ℤ pos 1))) refl refl e
   where
-    go : (a b : Moment) → moment_after start table (pos 0) ≡ a → moment_after start table (step *ℤ (count -ℤ pos 1)) ≡ b → span_of a b ≡ Accepted m → Span start table step count m
-    go (RefusedDate r) b p q f = let z : ◌≡◌ {A = ℕ} 0 1 = cc in absurd (omega arith)
-    go (Accepted a) (RefusedDate r) p q f = let z : ◌≡◌ {A = ℕ} 0 1 = cc in absurd (omega arith)
-    go (Accepted a) (Accepted l) p q f = record { first_accepted = p ∙ f; last = l; last_accepted = q }
+    go : (a b : Result ℤ Refusal) → moment_after start table (pos 0) ≡ a → moment_after start table (step *ℤ (count -ℤ pos 1)) ≡ b → span_of a b ≡ Ok m → Span start table step count m
+    go (Err r) b p q f = let z : ◌≡◌ {A = ℕ} 0 1 = cc in absurd (omega arith)
+    go (Ok a) (Err r) p q f = let z : ◌≡◌ {A = ℕ} 0 1 = cc in absurd (omega arith)
+    go (Ok a) (Ok l) p q f = record { first_accepted = p ∙ f; last = l; last_accepted = q }
 
 -- the last date's minute
 pub last_is : (start : Date) (table step count m : ℤ) (s : Span start table step count m) → m +ℤ step *ℤ (count -ℤ pos 1) ≡ s.last

@@ -17,7 +17,6 @@ use Rattle.dates.specs.declared.Date.TheVariants.{Minutes}
 use Rattle.tables.specs.Table.{default_table}
 use Rattle.frames.specs.declared.Coordinates.{Coordinates}
 use Rattle.frames.specs.Answer.{as_coordinates}
-use Rattle.places.specs.declared.PlaceAnswer.TheVariants.{Found as FoundPlace}
 use Rattle.places.specs.Answer.{hae_at, earth_at, place_answer}
 use Rattle.places.proofs.Answers.{hae_place}
 use Rattle.places.proofs.Earth.{earth_body}
@@ -95,8 +94,8 @@ module _ (start : Date) (table step : ℤ) where
     pub record Seen (m : ℤ) : Type 0 where
       pub planet : Coordinates
       pub earth : Coordinates
-      pub planet_is : place_answer (Minutes m) table body (pos 1) ≡ FoundPlace m planet
-      pub earth_is : place_answer (Minutes m) table (pos 3) (pos 1) ≡ FoundPlace m earth
+      pub planet_is : place_answer (Minutes m) table body (pos 1) ≡ Ok (m, planet)
+      pub earth_is : place_answer (Minutes m) table (pos 3) (pos 1) ≡ Ok (m, earth)
       pub dot_is : (aspect_at table body m).dot ≡ planet.x *ℤ earth.x +ℤ planet.y *ℤ earth.y
       pub cross_is : (aspect_at table body m).cross ≡ planet.x *ℤ earth.y -ℤ planet.y *ℤ earth.x
 

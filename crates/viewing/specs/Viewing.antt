@@ -8,8 +8,6 @@ use Rattle.refusals.specs.declared.Refusal.{Refusal}
 use Rattle.refusals.specs.declared.Refusal.TheVariants.{NoSuchBody, BadCount, NoSuchDate}
 use Rattle.refusals.specs.Number.{number_of}
 use Rattle.dates.specs.declared.Date.{Date}
-use Rattle.dates.specs.declared.Moment.{Moment}
-use Rattle.dates.specs.declared.Moment.TheVariants.{Accepted, Refused as RefusedDate}
 use Rattle.dates.specs.Moment.{is_step}
 use Rattle.tables.specs.Table.{is_body, moment_after}
 use Rattle.viewing.specs.declared.Search.{Search}
@@ -20,13 +18,13 @@ unfoldable pub is_search : (step count : ℤ) → Bool
 is_search step count = is_step step && is_from_to (pos 1) (pos 4000) count
 
 -- "then 1, 11, 2 if the span's first or last date is outside": the moment of the first date, if the last one is accepted too
-abbrev pub span_of : (first last : Moment) → Moment
-span_of (RefusedDate r) last = RefusedDate r
-span_of (Accepted m) (RefusedDate r) = RefusedDate r
-span_of (Accepted m) (Accepted l) = Accepted m
+abbrev pub span_of : (first last : Result ℤ Refusal) → Result ℤ Refusal
+span_of (Err r) last = Err r
+span_of (Ok m) (Err r) = Err r
+span_of (Ok m) (Ok l) = Ok m
 
 -- the last date is start + (count - 1)·step
-unfoldable pub span_moment : Date → (table step count : ℤ) → Moment
+unfoldable pub span_moment : Date → (table step count : ℤ) → Result ℤ Refusal
 span_moment start table step count = span_of (moment_after start table (pos 0)) (moment_after start table (step *ℤ (count -ℤ pos 1)))
 
 -- "3 also for body 3"
@@ -48,11 +46,11 @@ abbrev pub viewing_if : (is_planet : Bool) → (table body first step : ℤ) →
 viewing_if false table body first step count = ended (Err NoSuchBody) 0
 viewing_if true table body first step count = found_at first step count (first_picked (is_hit table body first step) count)
 
-abbrev pub viewing_on : Moment → (table body step : ℤ) → ℕ → Search
-viewing_on (RefusedDate r) table body step count = ended (Err r) 0
-viewing_on (Accepted first) table body step count = viewing_if (is_planet body) table body first step count
+abbrev pub viewing_on : Result ℤ Refusal → (table body step : ℤ) → ℕ → Search
+viewing_on (Err r) table body step count = ended (Err r) 0
+viewing_on (Ok first) table body step count = viewing_if (is_planet body) table body first step count
 
-abbrev pub viewing_by : (is_search : Bool) → Moment → (table body step : ℤ) → ℕ → Search
+abbrev pub viewing_by : (is_search : Bool) → Result ℤ Refusal → (table body step : ℤ) → ℕ → Search
 viewing_by false span table body step count = ended (Err BadCount) 0
 viewing_by true span table body step count = viewing_on span table body step count
 

@@ -8,12 +8,12 @@ ghost use Rattle.integers.specs.First.{first_picked};
 ghost use Rattle.integers.specs.Range.{Within};
 ghost use Rattle.integers.specs.Sign.{opposite_signs};
 ghost use Rattle.integers.specs.Triple.{PartsWithin};
-ghost use Rattle.angles.specs.Sines.{sine_entries};
 ghost use Rattle.tables.specs.Table.{Body, OnTable};
 ghost use Rattle.viewing.specs.Hit.{plane_dot, plane_cross, aspect_at, hit_if, minute_at, is_hit};
 ghost use Rattle.viewing.specs.Span.{SpanFits};
 ghost use Rattle.viewing.specs.Viewing.{is_search, span_moment, is_planet, ended, viewing_if, viewing_answer};
 
+use angles::Sines;
 use dates::{Date, Moment};
 use refusals::Refusal;
 
@@ -48,8 +48,7 @@ fn plane_cross(p: [i64; 3], e: [i64; 3]) -> i64
 }
 
 // The aspect of a body on a minute of a table's interval.
-fn aspect_at(sines: &[u32; 901], table: i64, body: i64, minute: i64) -> Aspect
-    requires sines_value { sines.now ≡ sine_entries }
+fn aspect_at(sines: &Sines, table: i64, body: i64, minute: i64) -> Aspect
     requires body { Body body }
     requires on_table { OnTable table minute }
     ensures { result ≡ aspect_at table body minute }
@@ -81,14 +80,13 @@ fn is_hit(before: i64, aspect: Aspect) -> bool
 
 // How many dates pass before the first hit, if there is one. Before the first date stands a cross product of 0, which is opposite to nothing.
 fn first_hit(
-    sines: &[u32; 901],
+    sines: &Sines,
     table: i64,
     body: i64,
     first: i64,
     step: i64,
     count: usize,
 ) -> Option<usize>
-    requires sines_value { sines.now ≡ sine_entries }
     requires body { Body body }
     requires span_fits { SpanFits table first step count }
     ensures { MatchOption result (first_picked (is_hit table body first step) count ≡ 0) (λ k. first_picked (is_hit table body first step) count ≡ k + 1) }
@@ -150,7 +148,7 @@ fn viewing_from(table: i64, first: i64, step: i64, count: usize, body: i64) -> S
     if !is_planet(body) {
         return none_looked_at(Refusal::NoSuchBody);
     }
-    let sines = angles::sines();
+    let sines = Sines::new();
     match first_hit(&sines, table, body, first, step, count) {
         Some(passed) => Search {
             looked: passed + 1,

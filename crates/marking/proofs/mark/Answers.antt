@@ -60,7 +60,7 @@ overflow_cast-allowed c =
 pub first_wrong-requires : goal.first_wrong-requires
 first_wrong-requires c =
     let m = within (goal.at.first_wrong-requires c).Else-not-is_markable in
-    record { sines_value = c.sines-sines.ensures; count_bound = (range_most 0 _ m.count_range, c.if-bytes-n.false) }
+    (range_most 0 _ m.count_range, c.if-bytes-n.false)
 
 -- the definition's place of the first wrong row
 abbrev place : After-first_wrong → ℕ

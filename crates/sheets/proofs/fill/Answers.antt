@@ -17,7 +17,6 @@ use Rattle.integers.proofs.Blocks.{round}
 use Rattle.integers.proofs.Cast.{read, back}
 use Rattle.integers.proofs.Number.{Num, mul, mul_fits, of_unsigned, w_read, w_more}
 use Rattle.refusals.specs.declared.Refusal.{Refusal}
-use Rattle.places.specs.declared.PlaceAnswer.{PlaceAnswer}
 use Rattle.places.specs.Answer.{place_after}
 use Rattle.rows.specs.Fields.{row_size, row_table}
 use Rattle.sheets.specs.Row.{bytes_for}
@@ -25,6 +24,7 @@ use Rattle.sheets.specs.Sheet.{one_if, answer_at, rows_of, good_of}
 use Rattle.sheets.proofs.Laws.{bytes_long, good_more, one_told, none_told, one_most}
 use Rattle.sheets.proofs.fill.Goals as goal
 use Rattle.sheets.proofs.fill.Goals.{In-loop-k, then-is_ok, else-is_ok}
+use Rattle.frames.specs.declared.Coordinates.{Coordinates}
 
 pub loop-k-init : goal.loop-k-init
 unfolding buffer.blocks good_of
@@ -47,19 +47,19 @@ offset c = mul (steps c) (index c) tt
 pub place_after-answer-requires : goal.place_after-answer-requires
 place_after-answer-requires c =
     let o = offset (goal.at.place_after-answer-requires c).In-loop-k in
-    record { sines_value = c.requires.sines_value; within = w_more (subst⁻¹ (Within 400000000) o.is o.small) tt }
+    w_more (subst⁻¹ (Within 400000000) o.is o.small) tt
 
 module _ (c : In-loop-k) where
   abbrev old : List ℕ
   old = mid_of (row_size * c.loop-k.k) (length c.loop-k.bytes - row_size * c.loop-k.k) c.loop-k.bytes
 
   -- the answer of row k
-  answer_is : {x : PlaceAnswer} → x ≡ place_after c.args.start row_table (read (read c.args.step *ℤ to_z w64 c.loop-k.k)) (read c.args.body) (read c.args.frame)
+  answer_is : {x : Result (ℤ × Coordinates) Refusal} → x ≡ place_after c.args.start row_table (read (read c.args.step *ℤ to_z w64 c.loop-k.k)) (read c.args.body) (read c.args.frame)
       → x ≡ answer_at c.args.start (read c.args.step) (read c.args.body) (read c.args.frame) c.loop-k.k
   answer_is e = e ∙ ap (λ (o : ℤ). place_after c.args.start row_table o (read c.args.body) (read c.args.frame)) (offset c).is
 
   -- a round that puts the row of its answer into the bytes from row k on leaves one row more
-  after : (ys : List ℕ) {x : PlaceAnswer}
+  after : (ys : List ℕ) {x : Result (ℤ × Coordinates) Refusal}
       → x ≡ answer_at c.args.start (read c.args.step) (read c.args.body) (read c.args.frame) c.loop-k.k
       → ys ≡ bytes_for (read c.args.body) (read c.args.frame) x ++ drop row_size old
       → (let k = c.loop-k.k in
@@ -72,7 +72,7 @@ module _ (c : In-loop-k) where
       let frame = read c.args.frame in
       let answers = answer_at c.args.start (read c.args.step) body frame in
       let put = round row_size (λ (k : ℕ). bytes_for body frame (answers k)) (λ k. bytes_long body frame (answers k)) c.loop-k.k c.args.bytes.now c.loop-k.bytes ys (omega arith) v.same_length v.rows_are
-      (row ∙ ap (λ (y : PlaceAnswer). bytes_for body frame y ++ drop row_size old) is) in
+      (row ∙ ap (λ (y : Result (ℤ × Coordinates) Refusal). bytes_for body frame y ++ drop row_size old) is) in
       (put.0, put.1)
 
 pub loop-k-preserved : goal.loop-k-preserved

@@ -1,12 +1,15 @@
 -- `row` answers, and leaves its bytes, as the definition says.
 -- Its test is the definition's, and `put_answer` leaves the row of the date's answer.
 use mathlib.Core.Path.{◌≡◌, sym, ap, ◌∙◌}
+use lib.IntN.{ℤ}
 use Rattle.integers.proofs.Cast.{read, back}
-use Rattle.places.specs.declared.PlaceAnswer.{PlaceAnswer}
 use Rattle.sheets.specs.Row.{answer_written, row_written}
 use Rattle.sheets.proofs.Laws.{row_short, row_by}
 use Rattle.sheets.proofs.row.Goals as goal
 use Rattle.sheets.proofs.row.Goals.{Start}
+use Rattle.std.specs.Prelude.{Result}
+use Rattle.frames.specs.declared.Coordinates.{Coordinates}
+use Rattle.refusals.specs.declared.Refusal.{Refusal}
 
 pub returns-then-bytes-lt-ROW_BYTES : goal.returns-then-bytes-lt-ROW_BYTES
 returns-then-bytes-lt-ROW_BYTES c =
@@ -19,6 +22,6 @@ as_read s = λ i. row_written s.args.date (back s.args.body s.ranges.body i) (ba
 pub returns : goal.returns
 returns c =
     c.put_answer.ensures
-    ∙ ap (λ (x : PlaceAnswer). answer_written (read c.args.body) (read c.args.frame) x c.args.bytes.now) c.place_after.ensures
+    ∙ ap (λ (x : Result (ℤ × Coordinates) Refusal). answer_written (read c.args.body) (read c.args.frame) x c.args.bytes.now) c.place_after.ensures
     ∙ sym (row_by c.args.date (read c.args.body) (read c.args.frame) c.args.bytes.now c.if-bytes-lt-ROW_BYTES.false)
     ∙ as_read (goal.at.returns c).Start

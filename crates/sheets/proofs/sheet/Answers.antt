@@ -45,7 +45,7 @@ returns-then-bytes-n c =
 pub fill-requires : goal.fill-requires
 fill-requires c =
     let t = within (goal.at.fill-requires c).Else-not-is_sheet in
-    record { sines_value = c.sines-sines.ensures; count_bound = (t.count_small, c.if-bytes-n.false); within = t.step_small }
+    record { count_bound = (t.count_small, c.if-bytes-n.false); within = t.step_small }
 
 pub returns : goal.returns
 returns c =

@@ -31,13 +31,13 @@ module _ (s : Start) where
   within body b = table_place_within s.args.table body s.args.minute b s.requires.on_table
 
 pub place_at-planet-requires : goal.place_at-planet-requires
-place_at-planet-requires c = record { sines_value = c.requires.sines_value; body = subst⁻¹ Body (body_is c) c.requires.body; on_table = on_table c }
+place_at-planet-requires c = record { body = subst⁻¹ Body (body_is c) c.requires.body; on_table = on_table c }
 
 planet_is : (c : After-place_at-planet) → c.place_at-planet.result ≡ hae_at c.before.args.table c.before.args.body c.before.args.minute
 planet_is c = let s = c.before in c.place_at-planet.ensures ∙ (λ i. hae_at (table_is s i) (body_is s i) (minute_is s i))
 
 pub place_at-earth-requires : goal.place_at-earth-requires
-place_at-earth-requires c = let s = c.before in record { sines_value = s.requires.sines_value; body = earth_body; on_table = on_table s }
+place_at-earth-requires c = let s = c.before in record { body = earth_body; on_table = on_table s }
 
 earth_is : (c : After-place_at-earth) → c.place_at-earth.result ≡ earth_at c.before.before.args.table c.before.before.args.minute
 earth_is c = let s = c.before.before in c.place_at-earth.ensures ∙ (λ i. earth_at (table_is s i) (minute_is s i))

@@ -48,7 +48,7 @@ aspect_at-aspect-requires c =
     let s = (goal.at.aspect_at-aspect-requires c).Start in
     let k = c.loop-k.k in
     let is = back_ok c.minute_at.result c.minute_at.type_inv ∙ c.minute_at.ensures ∙ (λ j. minute_at (first_is s j) (step_is s j) k) in
-    record { sines_value = c.requires.sines_value; body = subst⁻¹ Body (body_is s) c.requires.body; on_table = subst₂ OnTable (sym (table_is s)) (sym is) (c.requires.span_fits.each k (omega arith)) }
+    record { body = subst⁻¹ Body (body_is s) c.requires.body; on_table = subst₂ OnTable (sym (table_is s)) (sym is) (c.requires.span_fits.each k (omega arith)) }
 
 aspect_is : (c : After-is_hit) → c.aspect_at-aspect.result ≡ aspect_at (read c.args.table) (read c.args.body) (minute_at (read c.args.first) (read c.args.step) c.loop-k.k)
 aspect_is c =

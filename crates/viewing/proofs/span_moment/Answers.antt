@@ -6,12 +6,12 @@ use lib.IntN.{ℤ, pos, ◌-ℤ◌, ◌*ℤ◌}
 use Rattle.integers.specs.Range.{Within}
 use Rattle.integers.proofs.Cast.{read, back}
 use Rattle.integers.proofs.Number.{Num, known, lit, mul, mul_fits, sub, sub_fits, w_more}
-use Rattle.dates.specs.declared.Moment.{Moment}
-use Rattle.dates.specs.declared.Moment.TheVariants.{Accepted}
 use Rattle.tables.specs.Table.{moment_after}
 use Rattle.viewing.specs.Viewing.{span_of, span_moment}
 use Rattle.viewing.proofs.span_moment.Goals as goal
-use Rattle.viewing.proofs.span_moment.Goals.{In-Accepted, Start}
+use Rattle.viewing.proofs.span_moment.Goals.{In-Ok, Start}
+use Rattle.std.specs.Prelude.{Ok, Result}
+use Rattle.refusals.specs.declared.Refusal.{Refusal}
 
 module _ (s : Start) where
   count_is : Num (read s.args.count) s.args.count 4000
@@ -28,7 +28,7 @@ module _ (s : Start) where
   offset = mul step_is steps tt
 
   -- the definition by what the two moments are
-  by : {first last : Moment} → first ≡ moment_after s.args.start (read s.args.table) (pos 0)
+  by : {first last : Result ℤ Refusal} → first ≡ moment_after s.args.start (read s.args.table) (pos 0)
       → last ≡ moment_after s.args.start (read s.args.table) (read (read s.args.step *ℤ read (read s.args.count -ℤ pos 1)))
       → span_of first last ≡ span_moment s.args.start s.args.table s.args.step s.args.count
   unfolding span_moment
@@ -45,15 +45,15 @@ overflow_mul-step c = mul_fits (step_is c) (steps c) tt
 pub moment_after-last-requires : goal.moment_after-last-requires
 moment_after-last-requires c = w_more (subst⁻¹ (Within 4001000000) (offset c).is (offset c).small) tt
 
-pub returns-in-Refused : goal.returns-in-Refused
-returns-in-Refused c = by (goal.at.returns-in-Refused c).Start c.in-Refused.ensures c.moment_after-last.ensures
+pub returns-in-Err : goal.returns-in-Err
+returns-in-Err c = by (goal.at.returns-in-Err c).Start c.in-Err.ensures c.moment_after-last.ensures
 
-pub returns-in-Refused-last : goal.returns-in-Refused-last
-returns-in-Refused-last c = by (goal.at.returns-in-Refused-last c).Start c.in-Accepted.ensures c.in-Refused-last.ensures
+pub returns-in-Err-last : goal.returns-in-Err-last
+returns-in-Err-last c = by (goal.at.returns-in-Err-last c).Start c.in-Ok.ensures c.in-Err-last.ensures
 
-minute_is : (c : In-Accepted) → read c.in-Accepted.first ≡ c.in-Accepted.first
+minute_is : (c : In-Ok) → read c.in-Ok.first ≡ c.in-Ok.first
 minute_is c = search rules
 
-pub returns-in-Accepted-last : goal.returns-in-Accepted-last
-returns-in-Accepted-last c =
-    ap Accepted (minute_is (goal.at.returns-in-Accepted-last c).In-Accepted) ∙ by (goal.at.returns-in-Accepted-last c).Start c.in-Accepted.ensures c.in-Accepted-last.ensures
+pub returns-in-Ok-last : goal.returns-in-Ok-last
+returns-in-Ok-last c =
+    ap Ok (minute_is (goal.at.returns-in-Ok-last c).In-Ok) ∙ by (goal.at.returns-in-Ok-last c).Start c.in-Ok.ensures c.in-Ok-last.ensures

@@ -60,7 +60,7 @@ planet c = test (goal.at.Else-not-is_planet c).After-is_planet ∙ c.if-not-is_p
 pub first_hit-requires : goal.first_hit-requires
 first_hit-requires c =
     let s = (goal.at.first_hit-requires c).Start in
-    record { sines_value = c.sines-sines.ensures; body = subst⁻¹ Body (body_is s) (planet_of c.args.body (planet (goal.at.first_hit-requires c).Else-not-is_planet)).known; span_fits = span_read s }
+    record { body = subst⁻¹ Body (body_is s) (planet_of c.args.body (planet (goal.at.first_hit-requires c).Else-not-is_planet)).known; span_fits = span_read s }
 
 -- the definition's place of the first hit, as the search answered it
 place_is : (s : Start) → first_picked (is_hit (read s.args.table) (read s.args.body) (read s.args.first) (read s.args.step)) s.args.count ≡ place s
