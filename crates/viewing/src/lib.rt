@@ -2,20 +2,22 @@
 // whole walk, and each date's places are worked out once.
 #![tactic(auto)]
 
-ghost use Rattle.std.specs.Prelude.{◌≡◌, ◌+◌, ◌≤◌, Err};
+ghost use Rattle.std.specs.Prelude.{◌≡◌, ◌+◌, ◌≤◌, true, false, Err, MatchResult};
+ghost use Rattle.refusals.specs.declared.Refusal.TheVariants.{NoSuchBody};
 ghost use Rattle.std.specs.Option.{MatchOption};
 ghost use Rattle.integers.specs.First.{first_picked};
 ghost use Rattle.integers.specs.Range.{Within};
 ghost use Rattle.integers.specs.Sign.{opposite_signs};
 ghost use Rattle.integers.specs.Triple.{PartsWithin};
-ghost use Rattle.tables.specs.Table.{Body, OnTable};
+ghost use Rattle.tables.specs.Bodies.{body_number};
 ghost use Rattle.viewing.specs.Hit.{plane_dot, plane_cross, aspect_at, hit_if, minute_at, is_hit};
 ghost use Rattle.viewing.specs.Span.{SpanFits};
-ghost use Rattle.viewing.specs.Viewing.{is_search, span_moment, is_planet, ended, viewing_if, viewing_answer};
+ghost use Rattle.viewing.specs.Viewing.{is_search, span_moment, is_planet, ended, found_at, viewing_if, viewing_answer};
 
 use angles::Sines;
-use dates::{Date, Moment};
+use dates::Date;
 use refusals::Refusal;
+use tables::{Body, Moment};
 
 // How a planet and the Earth stand to each other, seen from the Sun in the plane of HAE: the dot and the cross product of x and y.
 #[derive(Clone, Copy, Debug, PartialEq, Eq)]
@@ -25,7 +27,7 @@ pub struct Aspect {
 }
 
 // How many dates were looked at; and the minute of the hit, or the refusal.
-#[derive(Clone, Copy)]
+#[derive(Clone, Copy, Debug, PartialEq, Eq)]
 pub struct Search {
     pub looked: usize,
     pub found: Result<i64, Refusal>,
@@ -47,14 +49,12 @@ fn plane_cross(p: [i64; 3], e: [i64; 3]) -> i64
     p[0] * e[1] - p[1] * e[0]
 }
 
-// The aspect of a body on a minute of a table's interval.
-fn aspect_at(sines: &Sines, table: i64, body: i64, minute: i64) -> Aspect
-    requires body { Body body }
-    requires on_table { OnTable table minute }
-    ensures { result ≡ aspect_at table body minute }
+// The aspect of a body at a moment.
+fn aspect_at(sines: &Sines, moment: Moment, body: Body) -> Aspect
+    ensures { result ≡ aspect_at moment.table (body_number body) moment.minute }
 {
-    let planet = orbits::place_at(sines, table, body, minute);
-    let earth = orbits::place_at(sines, table, 3, minute);
+    let planet = orbits::place_at(sines, moment, body);
+    let earth = orbits::place_at(sines, moment, Body::Earth);
     Aspect {
         dot: plane_dot(planet, earth),
         cross: plane_cross(planet, earth),
@@ -82,18 +82,20 @@ fn is_hit(before: i64, aspect: Aspect) -> bool
 fn first_hit(
     sines: &Sines,
     table: i64,
-    body: i64,
+    body: Body,
     first: i64,
     step: i64,
     count: usize,
 ) -> Option<usize>
-    requires body { Body body }
-    requires span_fits { SpanFits table first step count }
-    ensures { MatchOption result (first_picked (is_hit table body first step) count ≡ 0) (λ k. first_picked (is_hit table body first step) count ≡ k + 1) }
+    requires { SpanFits table first step count }
+    ensures { MatchOption result
+        (first_picked (is_hit table (body_number body) first step) count ≡ 0)
+        (λ k. first_picked (is_hit table (body_number body) first step) count ≡ k + 1) }
 {
     let mut before = 0;
     for k in 0..count {
-        let aspect = aspect_at(sines, table, body, minute_at(first, step, k));
+        let minute = minute_at(first, step, k);
+        let aspect = aspect_at(sines, Moment { table, minute }, body);
         if is_hit(before, aspect) {
             return Some(k);
         }
@@ -108,26 +110,27 @@ fn is_search(step: i64, count: i64) -> bool
     dates::is_step(step) & integers::is_from_to(1, 4_000, count)
 }
 
-// Whether there is a planet of this number to look for: not the Earth itself.
-fn is_planet(body: i64) -> bool
-    ensures { result ≡ is_planet body }
+// The planet of a number to look for, or refusal 3: there is no looking for the Earth itself.
+fn planet_of(number: i64) -> Result<Body, Refusal>
+    ensures { MatchResult result
+        (λ planet. (body_number planet ≡ number) × (is_planet number ≡ true))
+        (λ refusal. (refusal ≡ NoSuchBody) × (is_planet number ≡ false)) }
 {
-    tables::is_body(body) & (body != 3)
+    let body = Body::try_from(number)?;
+    if body == Body::Earth {
+        return Err(Refusal::NoSuchBody);
+    }
+    Ok(body)
 }
 
-// The moment of the span's first date, if its last one is accepted too: refusals 1, 11 and 2.
-fn span_moment(start: Date, table: i64, step: i64, count: i64) -> Moment
+// The minute of the span's first date, if its last one is accepted too; or refusal 1, 11 or 2.
+fn span_moment(start: Date, table: i64, step: i64, count: i64) -> Result<i64, Refusal>
     requires { Within 1000000 step × Within 4000 count }
     ensures { result ≡ span_moment start table step count }
 {
-    let last = tables::moment_after(start, table, step * (count - 1));
-    match tables::moment_after(start, table, 0) {
-        Moment::Refused(refusal) => Moment::Refused(refusal),
-        Moment::Accepted(first) => match last {
-            Moment::Refused(refusal) => Moment::Refused(refusal),
-            Moment::Accepted(_) => Moment::Accepted(first),
-        },
-    }
+    let first = tables::moment_after(start, table, 0)?;
+    tables::moment_after(start, table, step * (count - 1))?;
+    Ok(first)
 }
 
 // A search that is refused before any date is looked at.
@@ -140,16 +143,13 @@ fn none_looked_at(refusal: Refusal) -> Search
     }
 }
 
-// The answer on a span that is accepted: refusal 3, then 12.
-fn viewing_from(table: i64, first: i64, step: i64, count: usize, body: i64) -> Search
+// The answer of a search for a planet on a span that is accepted; refusal 12 where there is no hit.
+fn search_for(table: i64, planet: Body, first: i64, step: i64, count: usize) -> Search
     requires { SpanFits table first step count }
-    ensures { result ≡ viewing_if (is_planet body) table body first step count }
+    ensures { result ≡ found_at first step count (first_picked (is_hit table (body_number planet) first step) count) }
 {
-    if !is_planet(body) {
-        return none_looked_at(Refusal::NoSuchBody);
-    }
     let sines = Sines::new();
-    match first_hit(&sines, table, body, first, step, count) {
+    match first_hit(&sines, table, planet, first, step, count) {
         Some(passed) => Search {
             looked: passed + 1,
             found: Ok(minute_at(first, step, passed)),
@@ -161,6 +161,17 @@ fn viewing_from(table: i64, first: i64, step: i64, count: usize, body: i64) -> S
     }
 }
 
+// The answer on a span that is accepted: refusal 3, then 12.
+fn viewing_from(table: i64, first: i64, step: i64, count: usize, body: i64) -> Search
+    requires { SpanFits table first step count }
+    ensures { result ≡ viewing_if (is_planet body) table body first step count }
+{
+    match planet_of(body) {
+        Ok(planet) => search_for(table, planet, first, step, count),
+        Err(refusal) => none_looked_at(refusal),
+    }
+}
+
 // The next opposition or inferior conjunction among `count` dates from the start on: refusals 10, 1, 11, 2, 3 and 12 in order.
 pub fn viewing(start: Date, table: i64, step: i64, count: i64, body: i64) -> Search
     ensures { result ≡ viewing_answer start table step count body }
@@ -169,7 +180,7 @@ pub fn viewing(start: Date, table: i64, step: i64, count: i64, body: i64) -> Sea
         return none_looked_at(Refusal::BadCount);
     }
     match span_moment(start, table, step, count) {
-        Moment::Refused(refusal) => none_looked_at(refusal),
-        Moment::Accepted(first) => viewing_from(table, first, step, count as usize, body),
+        Ok(first) => viewing_from(table, first, step, count as usize, body),
+        Err(refusal) => none_looked_at(refusal),
     }
 }

@@ -2,7 +2,7 @@
 -- None of the first k dates is a hit, and `before` is the cross product of the last of them.
 use borrow.Author.Rules.{rules}
 use mathlib.Core.Bool.{Bool}
-use mathlib.Core.Path.{◌≡◌, sym, ap, subst⁻¹, subst₂, ◌∙◌}
+use mathlib.Core.Path.{◌≡◌, sym, ap, subst₂, ◌∙◌}
 use Prim.Native.Nat.{ℕ}
 use native.Mathlib.Numerals.{add-one}
 use native.Mathlib.Omega.{arith}
@@ -11,7 +11,8 @@ use Rattle.integers.specs.Sign.{opposite_signs}
 use Rattle.integers.proofs.Cast.{read, back, back_ok}
 use Rattle.integers.proofs.First.{none_more, is_first, is_none}
 use Rattle.integers.proofs.Number.{w_read}
-use Rattle.tables.specs.Table.{Body, OnTable}
+use Rattle.tables.specs.Table.{OnTable}
+use Rattle.tables.specs.Bodies.{body_number}
 use Rattle.viewing.specs.declared.Aspect.{Aspect}
 use Rattle.viewing.specs.Hit.{aspect_at, hit_if, minute_at, is_hit}
 use Rattle.viewing.proofs.Hits.{cross_before, hit_by}
@@ -22,9 +23,6 @@ module _ (s : Start) where
   table_is : read s.args.table ≡ s.args.table
   table_is = back s.args.table s.ranges.table
 
-  body_is : read s.args.body ≡ s.args.body
-  body_is = back s.args.body s.ranges.body
-
   first_is : read s.args.first ≡ s.args.first
   first_is = back s.args.first s.ranges.first
 
@@ -33,32 +31,33 @@ module _ (s : Start) where
 
   -- the hits, of the numbers as the loop reads them back, and of the numbers themselves
   abbrev hits : ℕ → Bool
-  hits k = is_hit (read s.args.table) (read s.args.body) (read s.args.first) (read s.args.step) k
+  hits k = is_hit (read s.args.table) (body_number s.args.body) (read s.args.first) (read s.args.step) k
 
-  found : first_picked hits s.args.count ≡ first_picked (is_hit s.args.table s.args.body s.args.first s.args.step) s.args.count
-  found = λ i. first_picked (is_hit (table_is i) (body_is i) (first_is i) (step_is i)) s.args.count
+  found : first_picked hits s.args.count ≡ first_picked (is_hit s.args.table (body_number s.args.body) s.args.first s.args.step) s.args.count
+  found = λ i. first_picked (is_hit (table_is i) (body_number s.args.body) (first_is i) (step_is i)) s.args.count
 
-pub minute_at-requires : goal.minute_at-requires
-minute_at-requires c =
-    let f = c.requires.span_fits in
+pub minute_at-minute-requires : goal.minute_at-minute-requires
+minute_at-minute-requires c =
+    let f = c.requires in
     record { within = (w_read f.first_near tt, w_read f.step_small tt); k_bound = omega (arith, f.count_small) }
 
-pub aspect_at-aspect-requires : goal.aspect_at-aspect-requires
-aspect_at-aspect-requires c =
-    let s = (goal.at.aspect_at-aspect-requires c).Start in
+-- date k lies in the table's interval
+pub invariant_of-aspect_at : goal.invariant_of-aspect_at
+invariant_of-aspect_at c =
+    let s = (goal.at.invariant_of-aspect_at c).Start in
     let k = c.loop-k.k in
-    let is = back_ok c.minute_at.result c.minute_at.type_inv ∙ c.minute_at.ensures ∙ (λ j. minute_at (first_is s j) (step_is s j) k) in
-    record { body = subst⁻¹ Body (body_is s) c.requires.body; on_table = subst₂ OnTable (sym (table_is s)) (sym is) (c.requires.span_fits.each k (omega arith)) }
+    let is = back_ok c.minute_at-minute.result c.minute_at-minute.type_inv ∙ c.minute_at-minute.ensures ∙ (λ j. minute_at (first_is s j) (step_is s j) k) in
+    record { on_table = subst₂ OnTable (sym (table_is s)) (sym is) (c.requires.each k (omega arith)) }
 
-aspect_is : (c : After-is_hit) → c.aspect_at-aspect.result ≡ aspect_at (read c.args.table) (read c.args.body) (minute_at (read c.args.first) (read c.args.step) c.loop-k.k)
+aspect_is : (c : After-is_hit) → c.aspect_at-aspect.result ≡ aspect_at (read c.args.table) (body_number c.args.body) (minute_at (read c.args.first) (read c.args.step) c.loop-k.k)
 aspect_is c =
-    c.aspect_at-aspect.ensures ∙ ap (aspect_at (read c.args.table) (read c.args.body)) (back_ok c.minute_at.result c.minute_at.type_inv ∙ c.minute_at.ensures)
+    c.aspect_at-aspect.ensures ∙ ap (aspect_at (read c.args.table) (body_number c.args.body)) (back_ok c.minute_at-minute.result c.minute_at-minute.type_inv ∙ c.minute_at-minute.ensures)
 
 -- the test of date k is the definition's
-told : (c : After-is_hit) → is_hit (read c.args.table) (read c.args.body) (read c.args.first) (read c.args.step) c.loop-k.k ≡ c.is_hit.result
+told : (c : After-is_hit) → is_hit (read c.args.table) (body_number c.args.body) (read c.args.first) (read c.args.step) c.loop-k.k ≡ c.is_hit.result
 told c =
     let a = aspect_is c in
-    sym (c.is_hit.ensures ∙ (λ j. hit_if (opposite_signs (a j).cross (c.loop-k.invariant.cross_is j)) (a j)) ∙ hit_by (read c.args.table) (read c.args.body) (read c.args.first) (read c.args.step) c.loop-k.k)
+    sym (c.is_hit.ensures ∙ (λ j. hit_if (opposite_signs (a j).cross (c.loop-k.invariant.cross_is j)) (a j)) ∙ hit_by (read c.args.table) (body_number c.args.body) (read c.args.first) (read c.args.step) c.loop-k.k)
 
 pub returns-then-is_hit : goal.returns-then-is_hit
 returns-then-is_hit c =
@@ -81,7 +80,7 @@ loop-k-preserved c =
     let cross = cross_is hit ∙ ap (λ (a : Aspect). a.cross) (aspect_is hit) in
     record {
       none_before = λ j l. none j (omega arith);
-      cross_is = cross ∙ ap (cross_before (read c.args.table) (read c.args.body) (read c.args.first) (read c.args.step)) (sym (add-one k));
+      cross_is = cross ∙ ap (cross_before (read c.args.table) (body_number c.args.body) (read c.args.first) (read c.args.step)) (sym (add-one k));
     }
 
 pub returns : goal.returns

@@ -1,17 +1,18 @@
 -- `span_moment` is the moment of the first date, if the last one is accepted too.
 -- By the cases of the two moments; the offset of the last date is below 10^13.
 use borrow.Author.Rules.{rules}
-use mathlib.Core.Path.{◌≡◌, ap, subst⁻¹, ◌∙◌}
+use mathlib.Core.Path.{◌≡◌, refl, ap, subst⁻¹, ◌∙◌}
 use lib.IntN.{ℤ, pos, ◌-ℤ◌, ◌*ℤ◌}
+use Rattle.std.specs.Prelude.{Ok, Result}
 use Rattle.integers.specs.Range.{Within}
 use Rattle.integers.proofs.Cast.{read, back}
 use Rattle.integers.proofs.Number.{Num, known, lit, mul, mul_fits, sub, sub_fits, w_more}
+use Rattle.refusals.specs.declared.Refusal.{Refusal}
+use Rattle.refusals.proofs.Handed.{handed_on}
 use Rattle.tables.specs.Table.{moment_after}
 use Rattle.viewing.specs.Viewing.{span_of, span_moment}
 use Rattle.viewing.proofs.span_moment.Goals as goal
-use Rattle.viewing.proofs.span_moment.Goals.{In-Ok, Start}
-use Rattle.std.specs.Prelude.{Ok, Result}
-use Rattle.refusals.specs.declared.Refusal.{Refusal}
+use Rattle.viewing.proofs.span_moment.Goals.{In_ok-first, Start}
 
 module _ (s : Start) where
   count_is : Num (read s.args.count) s.args.count 4000
@@ -37,23 +38,28 @@ module _ (s : Start) where
       λ i. span_of ((e ∙ ap (λ (t : ℤ). moment_after s.args.start t (pos 0)) table) i) ((f ∙ (λ j. moment_after s.args.start (table j) (offset.is j))) i)
 
 pub overflow_sub-count : goal.overflow_sub-count
-overflow_sub-count c = sub_fits (count_is c) (lit (pos 1)) tt
+overflow_sub-count c = sub_fits (count_is (goal.at.overflow_sub-count c).Start) (lit (pos 1)) tt
 
 pub overflow_mul-step : goal.overflow_mul-step
-overflow_mul-step c = mul_fits (step_is c) (steps c) tt
+overflow_mul-step c = let s = (goal.at.overflow_mul-step c).Start in mul_fits (step_is s) (steps s) tt
 
-pub moment_after-last-requires : goal.moment_after-last-requires
-moment_after-last-requires c = w_more (subst⁻¹ (Within 4001000000) (offset c).is (offset c).small) tt
+pub moment_after-requires-2 : goal.moment_after-requires-2
+moment_after-requires-2 c = let o = offset (goal.at.moment_after-requires-2 c).Start in w_more (subst⁻¹ (Within 4001000000) o.is o.small) tt
 
-pub returns-in-Err : goal.returns-in-Err
-returns-in-Err c = by (goal.at.returns-in-Err c).Start c.in-Err.ensures c.moment_after-last.ensures
+pub returns-in_err-first : goal.returns-in_err-first
+returns-in_err-first c =
+    let s = (goal.at.returns-in_err-first c).Start in
+    handed_on c.from_residual.ensures.1 ∙ by s c.in_err-first.ensures refl
 
-pub returns-in-Err-last : goal.returns-in-Err-last
-returns-in-Err-last c = by (goal.at.returns-in-Err-last c).Start c.in-Ok.ensures c.in-Err-last.ensures
+pub returns-in_err-moment_after : goal.returns-in_err-moment_after
+returns-in_err-moment_after c =
+    let s = (goal.at.returns-in_err-moment_after c).Start in
+    handed_on c.from_residual-in_err-moment_after.ensures.1 ∙ by s c.in_ok-first.ensures c.in_err-moment_after.ensures
 
-minute_is : (c : In-Ok) → read c.in-Ok.first ≡ c.in-Ok.first
+minute_is : (c : In_ok-first) → read c.in_ok-first.first ≡ c.in_ok-first.first
 minute_is c = search rules
 
-pub returns-in-Ok-last : goal.returns-in-Ok-last
-returns-in-Ok-last c =
-    ap Ok (minute_is (goal.at.returns-in-Ok-last c).In-Ok) ∙ by (goal.at.returns-in-Ok-last c).Start c.in-Ok.ensures c.in-Ok-last.ensures
+pub returns : goal.returns
+returns c =
+    let at = goal.at.returns c in
+    ap Ok (minute_is at.In_ok-first) ∙ by at.Start c.in_ok-first.ensures c.in_ok-moment_after.ensures

@@ -4,7 +4,7 @@ use borrow.Author.Rules.{rules}
 use mathlib.Core.Bool.{Bool, true}
 use mathlib.Core.Path.{◌≡◌, refl, sym, ap, ◌∙◌}
 use native.Mathlib.Omega.{arith}
-use lib.IntN.{nat_abs}
+use lib.IntN.{ℤ, nat_abs}
 use Rattle.integers.proofs.Cast.{read, back, cast_fits}
 use Rattle.integers.proofs.Difference.{zarith}
 use Rattle.integers.proofs.Ranges.{range_most}
