@@ -3,19 +3,16 @@
 use borrow.Author.Tests.{le-leb, lt-leb}
 use mathlib.Core.Bool.{Bool, true, false}
 use mathlib.Core.List.{List, ◌++◌}
-use mathlib.Core.Path.{◌≡◌, refl, sym, ap, subst⁻¹}
+use mathlib.Core.Path.{◌≡◌, refl, ap, subst⁻¹}
 use Prim.Native.Nat.{ℕ, ◌+◌, ◌*◌, ◌≤◌, ◌<◌}
 use native.Mathlib.Numerals.{add-one}
-use native.Mathlib.Omega.{arith}
 use lib.Dec.{T, leb}
 use lib.IntN.{ℤ, pos, nat_abs}
 use lib.ListN.{length, drop}
 use mir.Facts.{and_yes}
 use Rattle.std.specs.Prelude.{Ok, Err, Result}
-use Rattle.std.specs.Result.{is_ok}
 use Rattle.integers.specs.Range.{Within, FromTo, is_from_to}
 use Rattle.integers.proofs.Ranges.{of_test, range_most}
-use Rattle.integers.proofs.Table.{differ}
 use Rattle.refusals.specs.declared.Refusal.TheVariants.{ShortBuffer, BadCount}
 use Rattle.refusals.specs.Number.{number_of}
 use Rattle.dates.specs.declared.Date.{Date}
@@ -38,19 +35,6 @@ bytes_long body frame (Err r) = a_refused_row_has_its_size (number_of r)
 pub row_status_is : (answer : Result (ℤ × Coordinates) Refusal) → row_status (row_told answer) ≡ status_of answer
 row_status_is (Ok (m, p)) = refl
 row_status_is (Err r) = refl
-
--- an answer counts as a good row where its row call tells of no refusal
-pub one_told : (answer : Result (ℤ × Coordinates) Refusal) → is_ok (row_told answer) ≡ true → one_if answer ≡ 1
-one_told (Ok (m, p)) e = refl
-one_told (Err r) e = absurd (differ e)
-
-pub none_told : (answer : Result (ℤ × Coordinates) Refusal) → is_ok (row_told answer) ≡ false → one_if answer ≡ 0
-none_told (Ok (m, p)) e = absurd (differ (sym e))
-none_told (Err r) e = refl
-
-pub one_most : (answer : Result (ℤ × Coordinates) Refusal) → one_if answer ≤ 1
-one_most (Ok (m, p)) = omega arith
-one_most (Err r) = omega arith
 
 -- ---- the row of a date
 module _ (date : Date) (body frame : ℤ) (before : List ℕ) where

@@ -38,7 +38,7 @@ use Rattle.rows.proofs.Taken.{Counts}
 use Rattle.rows.proofs.RoundTrip.{a_refused_row_is_a_row_of_zeros, reading_gives_what_was_written, the_status_of_row, the_status_of_refused_row}
 use Rattle.sheets.specs.Row.{row_for, bytes_for, row_written}
 use Rattle.sheets.specs.Sheet.{answer_at, bytes_at, rows_of, good_of, is_sheet, sheet_written, sheet_good, good_in, one_for, one_if}
-use Rattle.sheets.proofs.Laws.{bytes_long, one_most, row_by, sheet_by}
+use Rattle.sheets.proofs.Laws.{bytes_long, row_by, sheet_by}
 
 -- ---- a row's table is one that there is, so that 11 does not stand in a row
 one_of_four : (r : Refusal) → IsRefused row_table r → FromTo (pos 1) (pos 4) (number_of r)
@@ -97,6 +97,10 @@ a_row_call_leaves_a_row date body frame before h =
 not_one : (k : ℕ) → 1 ≤ k → one_for k ≡ 0
 not_one zero l = absurd (omega arith)
 not_one (suc k) l = refl
+
+one_most : (answer : Result (ℤ × Coordinates) Refusal) → one_if answer ≤ 1
+one_most (Ok found) = omega arith
+one_most (Err r) = omega arith
 
 -- row n stands after n rows, and its status says whether it is good
 one_more : (body frame : ℤ) (done : List ℕ) (n : ℕ) (answer : Result (ℤ × Coordinates) Refusal) (rest : List ℕ) → length done ≡ row_size * n → one_for (status_at (done ++ (bytes_for body frame answer ++ rest)) n) ≡ one_if answer

@@ -67,10 +67,14 @@ fn fill(
 {
     let mut good = 0;
     for k in 0..count {
+        let at = ROW_BYTES * k;
         let answer = places::place_after(sines, start, ROW_TABLE, step * (k as i64), body, frame);
-        if put_answer(body, frame, answer, &mut bytes[ROW_BYTES * k..]).is_ok() {
-            good += 1;
-        }
+        let Ok((minute, p)) = answer else {
+            let _ = put_answer(body, frame, answer, &mut bytes[at..]);
+            continue;
+        };
+        rows::put_good(body, frame, minute, p.x, p.y, p.z, &mut bytes[at..]);
+        good += 1;
     }
     good
 }

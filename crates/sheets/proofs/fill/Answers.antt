@@ -1,6 +1,7 @@
 -- `fill` leaves the rows of a sheet, and answers how many of them have status 0.
 -- After k rounds the buffer begins with the definition's k first rows; a round adds one more row (integers, Blocks).
 use borrow.Rule.Slice.PartMut.{mid_of, put_mid}
+use borrow.Author.Rules.{rules}
 use mathlib.Core.List.{List, ◌++◌}
 use mathlib.Core.Path.{◌≡◌, refl, sym, ap, subst⁻¹, ◌∙◌}
 use Prim.Native.Nat.{ℕ, ◌+◌, ◌-◌, ◌*◌}
@@ -10,7 +11,6 @@ use lib.ListN.{length, drop}
 use mir.Syntax.{w64}
 use mir.Val.{to_z}
 use Rattle.std.specs.Prelude.{⊤, Result}
-use Rattle.std.specs.Result.{is_ok}
 use Rattle.integers.specs.Range.{Within}
 use Rattle.integers.specs.Buffer as buffer
 use Rattle.integers.proofs.Blocks.{round}
@@ -18,12 +18,13 @@ use Rattle.integers.proofs.Cast.{read, back}
 use Rattle.integers.proofs.Number.{Num, mul, mul_fits, of_unsigned, w_read, w_more}
 use Rattle.refusals.specs.declared.Refusal.{Refusal}
 use Rattle.places.specs.Answer.{place_after}
-use Rattle.rows.specs.Fields.{row_size, row_table}
+use Rattle.rows.specs.declared.Row.{Row}
+use Rattle.rows.specs.Fields.{row_size, row_table, good_row, row_bytes}
 use Rattle.sheets.specs.Row.{bytes_for}
 use Rattle.sheets.specs.Sheet.{one_if, answer_at, rows_of, good_of}
-use Rattle.sheets.proofs.Laws.{bytes_long, good_more, one_told, none_told, one_most}
+use Rattle.sheets.proofs.Laws.{bytes_long, good_more}
 use Rattle.sheets.proofs.fill.Goals as goal
-use Rattle.sheets.proofs.fill.Goals.{In-loop-k, then-is_ok, else-is_ok}
+use Rattle.sheets.proofs.fill.Goals.{In-Ok, In-loop-k}
 use Rattle.frames.specs.declared.Coordinates.{Coordinates}
 
 pub loop-k-init : goal.loop-k-init
@@ -75,23 +76,36 @@ module _ (c : In-loop-k) where
       (row ∙ ap (λ (y : Result (ℤ × Coordinates) Refusal). bytes_for body frame y ++ drop row_size old) is) in
       (put.0, put.1)
 
-pub loop-k-preserved : goal.loop-k-preserved
-loop-k-preserved c =
-    let n = (goal.at.loop-k-preserved c).In-loop-k in
-    let answer = c.place_after-answer.result in
+pub loop-k-preserved-in_default : goal.loop-k-preserved-in_default
+loop-k-preserved-in_default c =
+    let n = (goal.at.loop-k-preserved-in_default c).In-loop-k in
+    let v = c.loop-k.invariant in
     let is = answer_is n c.place_after-answer.ensures in
     let more = after n c.put_answer.new.bytes is (ap (λ (w : Result ⊤ Refusal × List ℕ). w.1) c.put_answer.ensures) in
-    let told = ap (λ (w : Result ⊤ Refusal × List ℕ). is_ok w.0) (sym c.put_answer.ensures) ∙ sym c.is_ok.ensures.value in
-    let good : c.if-is_ok.good ≡ c.loop-k.good + one_if answer =
-    elim c.if-is_ok.branch [
-      | then-is_ok w ↦ omega (arith, w.good-is, one_told answer (told ∙ w.if-is_ok.true))
-      | else-is_ok w ↦ omega (arith, w.good-is, none_told answer (told ∙ w.if-is_ok.false))
-    ] in
+    let none = ap one_if (sym is ∙ c.in_default.is) in
     record {
       rows_are = more.0;
       same_length = more.1;
-      good_is = omega (arith, good, c.loop-k.invariant.good_is, good_more c.args.start (read c.args.step) (read c.args.body) (read c.args.frame) c.loop-k.k, ap one_if is);
-      good_most = omega (arith, good, c.loop-k.invariant.good_most, one_most answer);
+      good_is = omega (arith, none, v.good_is, good_more c.args.start (read c.args.step) (read c.args.body) (read c.args.frame) c.loop-k.k);
+      good_most = omega (arith, v.good_most);
+    }
+
+-- the row of a place that was found, of the numbers that the machine reads back
+row_is : (c : In-Ok) → (let p = c.in-Ok.p in good_row (read c.args.body) (read c.args.frame) (read c.in-Ok.minute) (read p.x) (read p.y) (read p.z) ≡ good_row (read c.args.body) (read c.args.frame) c.in-Ok.minute p.x p.y p.z)
+row_is c = search rules
+
+pub loop-k-preserved : goal.loop-k-preserved
+loop-k-preserved c =
+    let n = (goal.at.loop-k-preserved c).In-loop-k in
+    let v = c.loop-k.invariant in
+    let is = sym c.in-Ok.is ∙ answer_is n c.place_after-answer.ensures in
+    let more = after n c.put_good.new.bytes is (c.put_good.ensures ∙ ap (λ (r : Row). row_bytes r ++ drop row_size (old n)) (row_is (goal.at.loop-k-preserved c).In-Ok)) in
+    let one = ap one_if (sym is) in
+    record {
+      rows_are = more.0;
+      same_length = more.1;
+      good_is = omega (arith, one, v.good_is, good_more c.args.start (read c.args.step) (read c.args.body) (read c.args.frame) c.loop-k.k);
+      good_most = omega (arith, v.good_most);
     }
 
 pub returns : goal.returns
