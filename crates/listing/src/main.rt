@@ -5,11 +5,11 @@
 
 ghost use Rattle.std.specs.Prelude.{◌≡◌, [], ◌++◌, ◌-◌, ◌^◌, ◌≤◌, ◌<◌, length, take, IfOk, OnOk, IfSome};
 ghost use Rattle.std.specs.Io.KnownBytes.{Appends};
-ghost use Rattle.angles.specs.Sines.{sine_entries};
 ghost use Rattle.listing.specs.Listing.{Sends, IsTurn};
 ghost use Rattle.listing_lines.specs.Held.{held_of};
 ghost use Rattle.listing_lines.specs.Stream.{last_of, lines_from, listing_of, held_after, printed_after};
 
+use angles::Sines;
 use listing_lines::HeldLine;
 use std::io;
 use std::io::{Read, Write};
@@ -51,12 +51,11 @@ impl Ready {
 // A block of the input, part by part.
 fn take_block<W: Write>(
     output: &mut W,
-    sines: &[u32; 901],
+    sines: &Sines,
     block: &[u8],
     held: &mut HeldLine,
     ready: &mut Ready,
 ) -> io::Result<()>
-    requires { sines.now ≡ sine_entries }
     ensures held { OnOk result (held_of held.new ≡ held_after (held_of held.old) block.now) }
     ensures sent { OnOk result (Sends (W.contents output.old) (W.contents output.new)
         (take ready.old.len ready.old.bytes ++ printed_after (held_of held.old) block.now) (take ready.new.len ready.new.bytes)) }
@@ -72,11 +71,10 @@ fn take_block<W: Write>(
 fn read_some<R: Read, W: Write>(
     input: &mut R,
     output: &mut W,
-    sines: &[u32; 901],
+    sines: &Sines,
     held: &mut HeldLine,
     ready: &mut Ready,
 ) -> io::Result<bool>
-    requires { sines.now ≡ sine_entries }
     ensures { IfOk result (λ more. IsTurn (R.remaining input.old) (R.remaining input.new)
         (W.contents output.old) (W.contents output.new) (held_of held.old) (held_of held.new)
         (take ready.old.len ready.old.bytes) (take ready.new.len ready.new.bytes) more) }
@@ -93,11 +91,10 @@ fn read_some<R: Read, W: Write>(
 // The last line, where no line end follows it, and all that is still to go out.
 fn finish<W: Write>(
     output: &mut W,
-    sines: &[u32; 901],
+    sines: &Sines,
     held: &HeldLine,
     ready: &mut Ready,
 ) -> io::Result<()>
-    requires { sines.now ≡ sine_entries }
     ensures { OnOk result (Appends (W.contents output.old) (W.contents output.new)
         (take ready.old.len ready.old.bytes ++ last_of (held_of held.now))) }
 {
@@ -107,8 +104,7 @@ fn finish<W: Write>(
 }
 
 // All of the input, shorter than the count of reads: where no read and no write fails, its lines are printed.
-fn run<R: Read, W: Write>(input: &mut R, output: &mut W, sines: &[u32; 901]) -> io::Result<()>
-    requires { sines.now ≡ sine_entries }
+fn run<R: Read, W: Write>(input: &mut R, output: &mut W, sines: &Sines) -> io::Result<()>
     ensures { OnOk result (IfSome (R.remaining input.old) (λ bytes. length bytes < 2 ^ 64 - 1 →
         Appends (W.contents output.old) (W.contents output.new) (lines_from [] bytes))) }
 {
@@ -129,7 +125,7 @@ fn list<R: Read, W: Write>(input: &mut R, output: &mut W) -> io::Result<()>
         Appends (W.contents output.old) (W.contents output.new) (listing_of bytes))) }
 {
     output.write_all(b"minute body frame status x y z\n")?;
-    run(input, output, &angles::sines())
+    run(input, output, &Sines::new())
 }
 
 fn main(rt: HostRuntime) -> io::Result<()> {

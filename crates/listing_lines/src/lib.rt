@@ -2,7 +2,6 @@
 #![tactic(auto)]
 
 ghost use Rattle.std.specs.Prelude.{◌≡◌, true, [], ◌∷◌, ◌++◌, ◌+◌, ◌-◌, ◌*◌, ◌≤◌, ◌<◌, length, position};
-ghost use Rattle.angles.specs.Sines.{sine_entries};
 ghost use Rattle.listing_lines.specs.Request.{is_space, digit_of, digits_of, whole_of, with_sign, field_of, rest_of, request_of};
 ghost use Rattle.listing_lines.specs.Decimal.{decimal_of, signed_of};
 ghost use Rattle.listing_lines.specs.Line.{text_of, numbers_of, answer_of, line_of, printed_of};
@@ -12,9 +11,10 @@ ghost use Rattle.listing_lines.specs.Stream.{last_of, IsFed, IsPrinted};
 
 mod held;
 
+use angles::Sines;
 use dates::Date;
+use frames::Coordinates;
 pub use held::HeldLine;
-use places::PlaceAnswer;
 use refusals::Refusal;
 use tables::DEFAULT_TABLE;
 
@@ -161,27 +161,25 @@ fn put_numbers(numbers: [i64; 7], bytes: &mut [u8], at: usize) -> usize
     put_field(numbers[6], b'\n', bytes, next)
 }
 
-fn numbers_of(body: i64, frame: i64, answer: PlaceAnswer) -> [i64; 7]
+fn numbers_of(body: i64, frame: i64, answer: Result<(i64, Coordinates), Refusal>) -> [i64; 7]
     ensures { result ≡ numbers_of body frame answer }
 {
     match answer {
-        PlaceAnswer::Found(minute, p) => [minute, body, frame, 0, p.x, p.y, p.z],
-        PlaceAnswer::Refused(refusal) => [0, 0, 0, refusal.number(), 0, 0, 0],
+        Ok((minute, p)) => [minute, body, frame, 0, p.x, p.y, p.z],
+        Err(refusal) => [0, 0, 0, refusal.number(), 0, 0, 0],
     }
 }
 
-fn answer_to(sines: &[u32; 901], request: Option<Request>) -> [i64; 7]
-    requires { sines.now ≡ sine_entries }
+fn answer_to(sines: &Sines, request: Option<Request>) -> [i64; 7]
     ensures { result ≡ answer_of request }
 {
     match request {
-        Some(
-            Request {
+        Some(asked) => {
+            let Request {
                 minute,
                 body,
                 frame,
-            },
-        ) => {
+            } = asked;
             let date = Date::Minutes(minute);
             let answer = places::place_after(sines, date, DEFAULT_TABLE, 0, body, frame);
             numbers_of(body, frame, answer)
@@ -191,18 +189,16 @@ fn answer_to(sines: &[u32; 901], request: Option<Request>) -> [i64; 7]
 }
 
 // The printed line of a request from byte `at` on, at most 147 bytes with its line end, and the byte behind it.
-pub fn put_line(sines: &[u32; 901], request: Option<Request>, bytes: &mut [u8], at: usize) -> usize
-    requires sines_value { sines.now ≡ sine_entries }
-    requires at_in_bounds { at + 147 ≤ length bytes.old }
+pub fn put_line(sines: &Sines, request: Option<Request>, bytes: &mut [u8], at: usize) -> usize
+    requires { at + 147 ≤ length bytes.old }
     ensures { Put at (line_of request) bytes.old bytes.new result × (result ≤ at + 147) }
 {
     put_numbers(answer_to(sines, request), bytes, at)
 }
 
 // The printed line of what is held of a line.
-fn put_held(sines: &[u32; 901], held: &HeldLine, bytes: &mut [u8], at: usize) -> usize
-    requires sines_value { sines.now ≡ sine_entries }
-    requires at_in_bounds { at + 147 ≤ length bytes.old }
+fn put_held(sines: &Sines, held: &HeldLine, bytes: &mut [u8], at: usize) -> usize
+    requires { at + 147 ≤ length bytes.old }
     ensures { Put at (printed_of (held_of held.now)) bytes.old bytes.new result × (result ≤ at + 147) }
 {
     put_line(sines, request_in(held.bytes()), bytes, at)
@@ -210,15 +206,8 @@ fn put_held(sines: &[u32; 901], held: &HeldLine, bytes: &mut [u8], at: usize) ->
 
 // A part of the input: the lines that end in it are printed, at most 147 bytes for a byte, and what follows the last is held.
 // The result is the byte behind what is printed.
-pub fn feed(
-    sines: &[u32; 901],
-    part: &[u8],
-    held: &mut HeldLine,
-    bytes: &mut [u8],
-    at: usize,
-) -> usize
-    requires sines_value { sines.now ≡ sine_entries }
-    requires part_in_bounds { at + 147 * length part.now ≤ length bytes.old }
+pub fn feed(sines: &Sines, part: &[u8], held: &mut HeldLine, bytes: &mut [u8], at: usize) -> usize
+    requires { at + 147 * length part.now ≤ length bytes.old }
     ensures fed { IsFed held.old part.now held.new }
     ensures printed { IsPrinted (held_of held.old) part.now at bytes.old bytes.new result }
 {
@@ -235,9 +224,8 @@ pub fn feed(
 }
 
 // The end of the input: what is held is a line without its end, where it is not empty.
-pub fn put_last(sines: &[u32; 901], held: &HeldLine, bytes: &mut [u8], at: usize) -> usize
-    requires sines_value { sines.now ≡ sine_entries }
-    requires at_in_bounds { at + 147 ≤ length bytes.old }
+pub fn put_last(sines: &Sines, held: &HeldLine, bytes: &mut [u8], at: usize) -> usize
+    requires { at + 147 ≤ length bytes.old }
     ensures { Put at (last_of (held_of held.now)) bytes.old bytes.new result × (result ≤ at + 147) }
 {
     if held.bytes().is_empty() {

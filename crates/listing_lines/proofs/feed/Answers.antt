@@ -7,7 +7,7 @@ use Rattle.listing_lines.proofs.feed.Goals.{then-b-eq10, else-b-eq10}
 
 pub loop-b-init : goal.loop-b-init
 loop-b-init c =
-    (fed_none c.args.held.now c.args.held.now.few, printed_none _ c.args.bytes.now c.args.at (omega (arith, c.requires.part_in_bounds)), refl)
+    (fed_none c.args.held.now c.args.held.now.few, printed_none _ c.args.bytes.now c.args.at (omega (arith, c.requires)), refl)
 
 pub loop-b-preserved : goal.loop-b-preserved
 loop-b-preserved c =
@@ -23,7 +23,7 @@ loop-b-preserved c =
           let e = w.if-b-eq10.true in
           rw (w.held-is, w.bytes-is, w.next-is) (
             fed_end before now w.clear.new.self l i within v.0 e w.clear.ensures.len w.clear.ensures.text,
-            prints_end before now w.clear.new.self l i within v.0 v.1 e (omega (arith, c.requires.part_in_bounds)) w.put_held-next.ensures.0 w.put_held-next.ensures.1,
+            prints_end before now w.clear.new.self l i within v.0 v.1 e (omega (arith, c.requires)) w.put_held-next.ensures.0 w.put_held-next.ensures.1,
             w.put_held-next.auto.bytes ∙ v.2,
           )
       | else-b-eq10 w ↦

@@ -14,6 +14,6 @@ returns-then-is_empty c =
     let none : length c.bytes.result.now ≡ 0 = eqb-true _ _ (sym c.if-is_empty.ensures) in (
       subst (λ (t : List ℕ). Put c.args.at t c.args.bytes.now c.args.bytes.now c.args.at)
           (sym (last_none line (sym (ap length c.bytes.ensures) ∙ none)))
-          (put_none c.args.bytes.now c.args.at (omega (arith, c.requires.at_in_bounds))),
+          (put_none c.args.bytes.now c.args.at (omega (arith, c.requires))),
       omega arith,
     )
