@@ -2,24 +2,22 @@
 #![tactic(auto)]
 
 ghost use Rattle.std.specs.Prelude.{◌≡◌, pos};
-ghost use Rattle.rows.specs.Answer.{written_status};
+ghost use Rattle.refusals.specs.Number.{status_of};
 ghost use Rattle.answers.specs.Answer.{date_of, c_angle, six_elements, c_elements, three_counts, c_counts, c_vector, three_doubles, c_place, searched, c_viewing};
 ghost use Rattle.answers.specs.Lent.{row_fields, c_row, c_sheet, c_mark};
 
+use angles::Angle;
 use dates::Date;
-use frames::{Coordinates, Turned};
-use kepler::AnomalyAnswer;
-use marking::MarkAnswer;
-use orbits::{Elements, ElementsAnswer};
-use places::{AuAnswer, PlaceAnswer};
+use frames::Coordinates;
+use orbits::Elements;
 use projector::PlaceInAu;
-use rows::{ReadAnswer, Row, Written};
-use sheets::SheetAnswer;
-use viewing::ViewingAnswer;
+use refusals::Refusal;
+use rows::Row;
+use viewing::Search;
 
 // A date. Form 0 is the Julian date; any other form is the minutes, and the member that is not meant is not looked at.
 #[repr(C)]
-#[derive(Clone, Copy)]
+#[derive(Clone, Copy, Debug, PartialEq)]
 pub struct CDate {
     pub form: i64,
     pub julian: f64,
@@ -28,7 +26,7 @@ pub struct CDate {
 
 // A status number, and an angle in millionths of a degree, zero where the status is not.
 #[repr(C)]
-#[derive(Clone, Copy)]
+#[derive(Clone, Copy, Debug, PartialEq)]
 pub struct CAngle {
     pub status: i64,
     pub angle: i64,
@@ -36,7 +34,7 @@ pub struct CAngle {
 
 // A status number, and six elements in hundred-millionths, zeros where the status is not.
 #[repr(C)]
-#[derive(Clone, Copy)]
+#[derive(Clone, Copy, Debug, PartialEq)]
 pub struct CElements {
     pub status: i64,
     pub a: i64,
@@ -49,7 +47,7 @@ pub struct CElements {
 
 // A status number, and three counts of 10^-7 au, zeros where the status is not.
 #[repr(C)]
-#[derive(Clone, Copy)]
+#[derive(Clone, Copy, Debug, PartialEq)]
 pub struct CVector {
     pub status: i64,
     pub x: i64,
@@ -59,7 +57,7 @@ pub struct CVector {
 
 // A status number, and three doubles in au, zeros where the status is not.
 #[repr(C)]
-#[derive(Clone, Copy)]
+#[derive(Clone, Copy, Debug, PartialEq)]
 pub struct CPlace {
     pub status: i64,
     pub x: f64,
@@ -69,7 +67,7 @@ pub struct CPlace {
 
 // A status number, and the fields of the row that was read, zeros where the status is not.
 #[repr(C)]
-#[derive(Clone, Copy)]
+#[derive(Clone, Copy, Debug, PartialEq)]
 pub struct CRow {
     pub status: i64,
     pub row_status: i64,
@@ -83,7 +81,7 @@ pub struct CRow {
 
 // A status number, and how many rows of the sheet have status 0.
 #[repr(C)]
-#[derive(Clone, Copy)]
+#[derive(Clone, Copy, Debug, PartialEq)]
 pub struct CSheet {
     pub status: i64,
     pub good: usize,
@@ -91,7 +89,7 @@ pub struct CSheet {
 
 // A status number, and the place of the first wrong row, zero where there is none.
 #[repr(C)]
-#[derive(Clone, Copy)]
+#[derive(Clone, Copy, Debug, PartialEq)]
 pub struct CMark {
     pub status: i64,
     pub row: usize,
@@ -99,71 +97,65 @@ pub struct CMark {
 
 // A status number, the minute of the hit, zero where the status is not, and how many dates were looked at.
 #[repr(C)]
-#[derive(Clone, Copy)]
+#[derive(Clone, Copy, Debug, PartialEq)]
 pub struct CViewing {
     pub status: i64,
     pub minutes: i64,
     pub looked: usize,
 }
 
-pub fn date_of(date: CDate) -> Date
-    ensures { result ≡ date_of date }
-{
-    if date.form == 0 {
-        return Date::Julian(date.julian);
-    }
-    Date::Minutes(date.minutes)
-}
+impl From<CDate> for Date {
+    ghost from_gives = { λ given date. date ≡ date_of given };
 
-pub fn angle_of(answer: AnomalyAnswer) -> CAngle
-    ensures { result ≡ c_angle answer }
-{
-    match answer {
-        AnomalyAnswer::Anomaly(a) => CAngle {
-            status: 0,
-            angle: a.millionths(),
-        },
-        AnomalyAnswer::Refused(r) => CAngle {
-            status: r.number(),
-            angle: 0,
-        },
+    fn from(given: CDate) -> Date {
+        if given.form == 0 {
+            return Date::Julian(given.julian);
+        }
+        Date::Minutes(given.minutes)
     }
 }
 
-pub fn elements_of(answer: ElementsAnswer) -> CElements
-    ensures { result ≡ c_elements answer }
-{
-    match answer {
-        ElementsAnswer::Found(x) => found_of(x),
-        ElementsAnswer::Refused(r) => CElements {
-            status: r.number(),
-            a: 0,
-            e: 0,
-            inclination: 0,
-            longitude: 0,
-            perihelion: 0,
-            node: 0,
-        },
+impl From<Result<Angle, Refusal>> for CAngle {
+    ghost from_gives = { λ answer c. c ≡ c_angle answer };
+
+    fn from(answer: Result<Angle, Refusal>) -> CAngle {
+        match answer {
+            Ok(angle) => CAngle {
+                status: 0,
+                angle: angle.millionths(),
+            },
+            Err(refusal) => CAngle {
+                status: refusal.number(),
+                angle: 0,
+            },
+        }
     }
 }
 
-fn found_of(x: Elements) -> CElements
-    ensures { result ≡ six_elements (pos 0) x }
-{
-    let a = x.a;
-    let e = x.e;
-    let inclination = x.inclination;
-    let longitude = x.longitude;
-    let perihelion = x.perihelion;
-    let node = x.node;
-    CElements {
-        status: 0,
-        a: a.hundred_millionths(),
-        e: e.hundred_millionths(),
-        inclination: inclination.hundred_millionths(),
-        longitude: longitude.hundred_millionths(),
-        perihelion: perihelion.hundred_millionths(),
-        node: node.hundred_millionths(),
+impl From<Result<Elements, Refusal>> for CElements {
+    ghost from_gives = { λ answer c. c ≡ c_elements answer };
+
+    fn from(answer: Result<Elements, Refusal>) -> CElements {
+        match answer {
+            Ok(elements) => CElements {
+                status: 0,
+                a: elements.a.hundred_millionths(),
+                e: elements.e.hundred_millionths(),
+                inclination: elements.inclination.hundred_millionths(),
+                longitude: elements.longitude.hundred_millionths(),
+                perihelion: elements.perihelion.hundred_millionths(),
+                node: elements.node.hundred_millionths(),
+            },
+            Err(refusal) => CElements {
+                status: refusal.number(),
+                a: 0,
+                e: 0,
+                inclination: 0,
+                longitude: 0,
+                perihelion: 0,
+                node: 0,
+            },
+        }
     }
 }
 
@@ -178,24 +170,27 @@ fn three_counts(status: i64, p: Coordinates) -> CVector
     }
 }
 
-pub fn counts_of(answer: PlaceAnswer) -> CVector
-    ensures { result ≡ c_counts answer }
-{
-    match answer {
-        PlaceAnswer::Found(_, p) => three_counts(0, p),
-        PlaceAnswer::Refused(r) => three_counts(
-            r.number(),
-            frames::as_coordinates([0, 0, 0]),
-        ),
+// A turned vector.
+impl From<Result<Coordinates, Refusal>> for CVector {
+    ghost from_gives = { λ answer c. c ≡ c_vector answer };
+
+    fn from(answer: Result<Coordinates, Refusal>) -> CVector {
+        match answer {
+            Ok(vector) => three_counts(0, vector),
+            Err(refusal) => three_counts(refusal.number(), Coordinates::from([0, 0, 0])),
+        }
     }
 }
 
-pub fn vector_of(turned: Turned) -> CVector
-    ensures { result ≡ c_vector turned }
-{
-    match turned {
-        Turned::Vector(p) => three_counts(0, p),
-        Turned::Refused(r) => three_counts(r.number(), frames::as_coordinates([0, 0, 0])),
+// A place, without its minute.
+impl From<Result<(i64, Coordinates), Refusal>> for CVector {
+    ghost from_gives = { λ answer c. c ≡ c_counts answer };
+
+    fn from(answer: Result<(i64, Coordinates), Refusal>) -> CVector {
+        match answer {
+            Ok((_, place)) => three_counts(0, place),
+            Err(refusal) => three_counts(refusal.number(), Coordinates::from([0, 0, 0])),
+        }
     }
 }
 
@@ -210,20 +205,22 @@ fn three_doubles(status: i64, p: PlaceInAu) -> CPlace
     }
 }
 
-pub fn au_of(answer: AuAnswer) -> CPlace
-    ensures { result ≡ c_place answer }
-{
-    match answer {
-        AuAnswer::InAu(p) => three_doubles(0, p),
-        AuAnswer::Refused(r) => three_doubles(r.number(), projector::nowhere()),
+impl From<Result<PlaceInAu, Refusal>> for CPlace {
+    ghost from_gives = { λ answer c. c ≡ c_place answer };
+
+    fn from(answer: Result<PlaceInAu, Refusal>) -> CPlace {
+        match answer {
+            Ok(place) => three_doubles(0, place),
+            Err(refusal) => three_doubles(refusal.number(), projector::nowhere()),
+        }
     }
 }
 
-fn fields_of(row: Row) -> CRow
-    ensures { result ≡ row_fields (pos 0) row }
+fn row_fields(status: i64, row: Row) -> CRow
+    ensures { result ≡ row_fields status row }
 {
     CRow {
-        status: 0,
+        status,
         row_status: row.status,
         body: row.body,
         frame: row.frame,
@@ -234,73 +231,72 @@ fn fields_of(row: Row) -> CRow
     }
 }
 
-pub fn read_of(answer: ReadAnswer) -> CRow
-    ensures { result ≡ c_row answer }
+impl From<Result<Row, Refusal>> for CRow {
+    ghost from_gives = { λ answer c. c ≡ c_row answer };
+
+    fn from(answer: Result<Row, Refusal>) -> CRow {
+        match answer {
+            Ok(row) => row_fields(0, row),
+            Err(refusal) => row_fields(refusal.number(), Row::default()),
+        }
+    }
+}
+
+// The number of what a writer or a row call answers.
+pub fn status_of(answer: Result<(), Refusal>) -> i64
+    ensures { result ≡ status_of answer }
 {
     match answer {
-        ReadAnswer::Found(row) => fields_of(row),
-        ReadAnswer::Refused(r) => CRow {
-            status: r.number(),
-            row_status: 0,
-            body: 0,
-            frame: 0,
-            minutes: 0,
-            x: 0,
-            y: 0,
-            z: 0,
-        },
+        Ok(()) => 0,
+        Err(refusal) => refusal.number(),
     }
 }
 
-pub fn written_of(answer: Written) -> i64
-    ensures { result ≡ written_status answer }
-{
-    match answer {
-        Written::Done => 0,
-        Written::Refused(r) => r.number(),
+impl From<Result<usize, Refusal>> for CSheet {
+    ghost from_gives = { λ answer c. c ≡ c_sheet answer };
+
+    fn from(answer: Result<usize, Refusal>) -> CSheet {
+        match answer {
+            Ok(good) => CSheet { status: 0, good },
+            Err(refusal) => CSheet {
+                status: refusal.number(),
+                good: 0,
+            },
+        }
     }
 }
 
-pub fn sheet_of(answer: SheetAnswer) -> CSheet
-    ensures { result ≡ c_sheet answer }
-{
-    CSheet {
-        status: answer.status,
-        good: answer.good,
+impl From<Result<Option<usize>, Refusal>> for CMark {
+    ghost from_gives = { λ answer c. c ≡ c_mark answer };
+
+    fn from(answer: Result<Option<usize>, Refusal>) -> CMark {
+        match answer {
+            Ok(None) => CMark { status: 0, row: 0 },
+            Ok(Some(row)) => CMark { status: 0, row },
+            Err(refusal) => CMark {
+                status: refusal.number(),
+                row: 0,
+            },
+        }
     }
 }
 
-pub fn mark_of(answer: MarkAnswer) -> CMark
-    ensures { result ≡ c_mark answer }
-{
-    match answer {
-        MarkAnswer::Good => CMark { status: 0, row: 0 },
-        MarkAnswer::Wrong(place) => CMark {
-            status: 0,
-            row: place,
-        },
-        MarkAnswer::Refused(r) => CMark {
-            status: r.number(),
-            row: 0,
-        },
-    }
-}
+impl From<Search> for CViewing {
+    ghost from_gives = { λ search c. c ≡ c_viewing search };
 
-fn searched(status: i64, minutes: i64, looked: usize) -> CViewing
-    ensures { result ≡ searched status minutes looked }
-{
-    CViewing {
-        status,
-        minutes,
-        looked,
-    }
-}
-
-pub fn viewing_of(answer: ViewingAnswer) -> CViewing
-    ensures { result ≡ c_viewing answer }
-{
-    match answer {
-        ViewingAnswer::Found(minutes, looked) => searched(0, minutes, looked),
-        ViewingAnswer::Refused(r, looked) => searched(r.number(), 0, looked),
+    fn from(search: Search) -> CViewing {
+        let looked = search.looked;
+        match search.found {
+            Ok(minutes) => CViewing {
+                status: 0,
+                minutes,
+                looked,
+            },
+            Err(refusal) => CViewing {
+                status: refusal.number(),
+                minutes: 0,
+                looked,
+            },
+        }
     }
 }

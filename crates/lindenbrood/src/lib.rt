@@ -18,8 +18,9 @@ ghost use Rattle.marking.specs.Mark.{mark_answer};
 ghost use Rattle.answers.specs.Answer.{date_of, c_angle, IsSolved, c_elements, c_counts, c_vector, c_place, c_viewing};
 ghost use Rattle.answers.specs.Lent.{c_row, row_of_fields, written_number, sheet_number, c_mark};
 
-use angles::{Angle, Element};
+use angles::{Angle, Element, Sines};
 use answers::{CAngle, CDate, CElements, CMark, CPlace, CRow, CSheet, CVector, CViewing};
+use dates::Date;
 use rows::Row;
 use tables::DEFAULT_TABLE;
 
@@ -28,8 +29,7 @@ use tables::DEFAULT_TABLE;
 pub extern "C" fn lindenbrood_sine(angle: i64) -> i64
     ensures { result ≡ sine_of angle }
 {
-    let sines = angles::sines();
-    angles::sine(&sines, Angle::of_millionths(angle))
+    Sines::new().sine(Angle::of_millionths(angle))
 }
 
 // The cosine of any angle.
@@ -37,8 +37,7 @@ pub extern "C" fn lindenbrood_sine(angle: i64) -> i64
 pub extern "C" fn lindenbrood_cosine(angle: i64) -> i64
     ensures { result ≡ cosine_of angle }
 {
-    let sines = angles::sines();
-    angles::cosine(&sines, Angle::of_millionths(angle))
+    Sines::new().cosine(Angle::of_millionths(angle))
 }
 
 // The eccentric anomaly of any mean anomaly at any eccentricity, or refusal 7.
@@ -47,8 +46,8 @@ pub extern "C" fn lindenbrood_eccentric_anomaly(e: i64, mean: i64) -> CAngle
     ensures value { result ≡ c_angle (solved_of e mean) }
     ensures solved { IsSolved e mean result }
 {
-    let sines = angles::sines();
-    answers::angle_of(kepler::solve(
+    let sines = Sines::new();
+    CAngle::from(kepler::solve(
         &sines,
         Element::of_hundred_millionths(e),
         Angle::of_millionths(mean),
@@ -60,7 +59,7 @@ pub extern "C" fn lindenbrood_eccentric_anomaly(e: i64, mean: i64) -> CAngle
 pub extern "C" fn lindenbrood_elements_by_table(date: CDate, table: i64, body: i64) -> CElements
     ensures { result ≡ c_elements (elements_answer (date_of date) table body) }
 {
-    answers::elements_of(orbits::elements_on_date(answers::date_of(date), table, body))
+    CElements::from(orbits::elements_on_date(Date::from(date), table, body))
 }
 
 // The same by the table of a call that names none.
@@ -68,7 +67,7 @@ pub extern "C" fn lindenbrood_elements_by_table(date: CDate, table: i64, body: i
 pub extern "C" fn lindenbrood_elements(date: CDate, body: i64) -> CElements
     ensures { result ≡ c_elements (elements_answer (date_of date) default_table body) }
 {
-    answers::elements_of(orbits::elements_on_date(answers::date_of(date), DEFAULT_TABLE, body))
+    CElements::from(orbits::elements_on_date(Date::from(date), DEFAULT_TABLE, body))
 }
 
 // The mean anomaly of a body on a date by a table.
@@ -76,7 +75,7 @@ pub extern "C" fn lindenbrood_elements(date: CDate, body: i64) -> CElements
 pub extern "C" fn lindenbrood_mean_anomaly_by_table(date: CDate, table: i64, body: i64) -> CAngle
     ensures { result ≡ c_angle (mean_answer (date_of date) table body) }
 {
-    answers::angle_of(orbits::mean_anomaly(answers::date_of(date), table, body))
+    CAngle::from(orbits::mean_anomaly(Date::from(date), table, body))
 }
 
 // The same by the table of a call that names none.
@@ -84,7 +83,7 @@ pub extern "C" fn lindenbrood_mean_anomaly_by_table(date: CDate, table: i64, bod
 pub extern "C" fn lindenbrood_mean_anomaly(date: CDate, body: i64) -> CAngle
     ensures { result ≡ c_angle (mean_answer (date_of date) default_table body) }
 {
-    answers::angle_of(orbits::mean_anomaly(answers::date_of(date), DEFAULT_TABLE, body))
+    CAngle::from(orbits::mean_anomaly(Date::from(date), DEFAULT_TABLE, body))
 }
 
 // The place of a body in a frame on a date by a table, in counts of 10^-7 au.
@@ -97,9 +96,9 @@ pub extern "C" fn lindenbrood_counts_by_table(
 ) -> CVector
     ensures { result ≡ c_counts (place_answer (date_of date) table body frame) }
 {
-    let given = answers::date_of(date);
-    let sines = angles::sines();
-    answers::counts_of(places::place_after(&sines, given, table, 0, body, frame))
+    let given = Date::from(date);
+    let sines = Sines::new();
+    CVector::from(places::place_after(&sines, given, table, 0, body, frame))
 }
 
 // The same by the table of a call that names none.
@@ -107,9 +106,9 @@ pub extern "C" fn lindenbrood_counts_by_table(
 pub extern "C" fn lindenbrood_counts(date: CDate, body: i64, frame: i64) -> CVector
     ensures { result ≡ c_counts (place_answer (date_of date) default_table body frame) }
 {
-    let given = answers::date_of(date);
-    let sines = angles::sines();
-    answers::counts_of(places::place_after(&sines, given, DEFAULT_TABLE, 0, body, frame))
+    let given = Date::from(date);
+    let sines = Sines::new();
+    CVector::from(places::place_after(&sines, given, DEFAULT_TABLE, 0, body, frame))
 }
 
 // The place of a body in a frame on a date by a table, in au.
@@ -122,8 +121,8 @@ pub extern "C" fn lindenbrood_place_by_table(
 ) -> CPlace
     ensures { result ≡ c_place (au_answer (date_of date) table body frame) }
 {
-    let sines = angles::sines();
-    answers::au_of(places::place_in_au(&sines, answers::date_of(date), table, body, frame))
+    let sines = Sines::new();
+    CPlace::from(places::place_in_au(&sines, Date::from(date), table, body, frame))
 }
 
 // The same by the table of a call that names none.
@@ -131,8 +130,8 @@ pub extern "C" fn lindenbrood_place_by_table(
 pub extern "C" fn lindenbrood_place(date: CDate, body: i64, frame: i64) -> CPlace
     ensures { result ≡ c_place (au_answer (date_of date) default_table body frame) }
 {
-    let sines = angles::sines();
-    answers::au_of(places::place_in_au(&sines, answers::date_of(date), DEFAULT_TABLE, body, frame))
+    let sines = Sines::new();
+    CPlace::from(places::place_in_au(&sines, Date::from(date), DEFAULT_TABLE, body, frame))
 }
 
 // A vector of one frame in another on a date by a table, whose Earth HEE and HEEQ go by.
@@ -148,9 +147,9 @@ pub extern "C" fn lindenbrood_turn_by_table(
 ) -> CVector
     ensures { result ≡ c_vector (turn_answer (date_of date) table from to (x ∷ y ∷ z ∷ [])) }
 {
-    let given = answers::date_of(date);
-    let sines = angles::sines();
-    answers::vector_of(places::turn_on_date(&sines, given, table, from, to, [x, y, z]))
+    let given = Date::from(date);
+    let sines = Sines::new();
+    CVector::from(places::turn_on_date(&sines, given, table, from, to, [x, y, z]))
 }
 
 // The same by the table of a call that names none.
@@ -165,9 +164,9 @@ pub extern "C" fn lindenbrood_turn(
 ) -> CVector
     ensures { result ≡ c_vector (turn_answer (date_of date) default_table from to (x ∷ y ∷ z ∷ [])) }
 {
-    let given = answers::date_of(date);
-    let sines = angles::sines();
-    answers::vector_of(places::turn_on_date(&sines, given, DEFAULT_TABLE, from, to, [x, y, z]))
+    let given = Date::from(date);
+    let sines = Sines::new();
+    CVector::from(places::turn_on_date(&sines, given, DEFAULT_TABLE, from, to, [x, y, z]))
 }
 
 // A vector of HAE in RTN at the place r of a spacecraft.
@@ -175,7 +174,7 @@ pub extern "C" fn lindenbrood_turn(
 pub extern "C" fn lindenbrood_to_rtn(rx: i64, ry: i64, rz: i64, x: i64, y: i64, z: i64) -> CVector
     ensures { result ≡ c_vector (to_rtn (rx ∷ ry ∷ rz ∷ []) (x ∷ y ∷ z ∷ [])) }
 {
-    answers::vector_of(frames::to_rtn([rx, ry, rz], [x, y, z]))
+    CVector::from(frames::to_rtn([rx, ry, rz], [x, y, z]))
 }
 
 // A vector of RTN at the place r of a spacecraft in HAE.
@@ -183,15 +182,15 @@ pub extern "C" fn lindenbrood_to_rtn(rx: i64, ry: i64, rz: i64, x: i64, y: i64, 
 pub extern "C" fn lindenbrood_from_rtn(rx: i64, ry: i64, rz: i64, x: i64, y: i64, z: i64) -> CVector
     ensures { result ≡ c_vector (from_rtn (rx ∷ ry ∷ rz ∷ []) (x ∷ y ∷ z ∷ [])) }
 {
-    answers::vector_of(frames::from_rtn([rx, ry, rz], [x, y, z]))
+    CVector::from(frames::from_rtn([rx, ry, rz], [x, y, z]))
 }
 
 // The row of a body in a frame on a date, into bytes that are lent.
 #[unsafe(no_mangle)]
 pub extern "C" fn lindenbrood_row(date: CDate, body: i64, frame: i64, bytes: &mut [u8]) -> i64
-    ensures { (result, bytes.new) ≡ row_written (date_of date) body frame bytes.old }
+    ensures { (result, bytes.new) ≡ written_number (row_written (date_of date) body frame bytes.old) }
 {
-    sheets::row(answers::date_of(date), body, frame, bytes)
+    answers::status_of(sheets::row(Date::from(date), body, frame, bytes))
 }
 
 // A row of these fields, into bytes that are lent.
@@ -217,7 +216,7 @@ pub extern "C" fn lindenbrood_write_row(
         y,
         z,
     };
-    answers::written_of(rows::write_row(row, bytes))
+    answers::status_of(rows::write_row(row, bytes))
 }
 
 // The row in bytes that are lent to be read.
@@ -225,7 +224,7 @@ pub extern "C" fn lindenbrood_write_row(
 pub extern "C" fn lindenbrood_read_row(bytes: &[u8]) -> CRow
     ensures { result ≡ c_row (read_of bytes.now) }
 {
-    answers::read_of(rows::read_row(bytes))
+    CRow::from(rows::read_row(bytes))
 }
 
 // The rows for a date, that date and the step, and so on, into bytes that are lent.
@@ -240,7 +239,7 @@ pub extern "C" fn lindenbrood_sheet(
 ) -> CSheet
     ensures { (result, bytes.new) ≡ sheet_number (sheet_written (date_of start) step count body frame bytes.old) }
 {
-    answers::sheet_of(sheets::sheet(answers::date_of(start), step, count, body, frame, bytes))
+    CSheet::from(sheets::sheet(Date::from(start), step, count, body, frame, bytes))
 }
 
 // The first wrong row of a sheet in bytes that are lent to be read.
@@ -248,7 +247,7 @@ pub extern "C" fn lindenbrood_sheet(
 pub extern "C" fn lindenbrood_mark(bytes: &[u8], count: i64, allowed: i64) -> CMark
     ensures { result ≡ c_mark (mark_answer bytes.now count allowed) }
 {
-    answers::mark_of(marking::mark(bytes, count, allowed))
+    CMark::from(marking::mark(bytes, count, allowed))
 }
 
 // The next opposition or inferior conjunction of a body among the dates of a walk, by a table.
@@ -262,7 +261,7 @@ pub extern "C" fn lindenbrood_viewing_by_table(
 ) -> CViewing
     ensures { result ≡ c_viewing (viewing_answer (date_of start) table step count body) }
 {
-    answers::viewing_of(viewing::viewing(answers::date_of(start), table, step, count, body))
+    CViewing::from(viewing::viewing(Date::from(start), table, step, count, body))
 }
 
 // The same by the table of a call that names none; beside a whole walk the few ns of one call more do not count.
