@@ -8,11 +8,45 @@ ghost use Rattle.integers.specs.Triple.{PartsWithin};
 ghost use Rattle.vectors.specs.Range.{NoLonger};
 ghost use Rattle.frames.specs.Range.{EarthFits};
 ghost use Rattle.vectors.specs.Vector.{applied};
-ghost use Rattle.frames.specs.Frame.{KnownFrame, is_frame, HasRows, needs_earth, gei_rows, hci_rows, solar_axis, on_ecliptic, hee_rows, heeq_rows, rotation_of, hae_turned, turned_between};
+ghost use Rattle.frames.specs.Frame.{is_frame, HasRows, needs_earth, gei_rows, hci_rows, solar_axis, on_ecliptic, hee_rows, heeq_rows, rotation_of, hae_turned, turned_between};
+ghost use Rattle.frames.specs.Frames.{frame_number, frame_of};
 ghost use Rattle.frames.specs.Answer.{part_in_limits, in_limits, as_coordinates};
 ghost use Rattle.frames.specs.Rtn.{rtn_of, rtn_rows, has_direction, rtn_turned, to_rtn, from_rtn};
 
 use refusals::Refusal;
+
+// The five frames.
+#[derive(Clone, Copy, Debug, PartialEq, Eq)]
+pub enum Frame {
+    // HAE of J2000, which the rows of the others turn into them.
+    Hae = 1,
+    // GEI of J2000, by the obliquity.
+    Gei = 2,
+    // HCI, by the node and the tilt; its last row is the solar axis.
+    Hci = 3,
+    // HEE, by the Earth's (x, y, 0).
+    Hee = 4,
+    // HEEQ, by the unit vector to the Earth and the solar axis.
+    Heeq = 5,
+}
+
+impl TryFrom<i64> for Frame {
+    type Error = Refusal;
+
+    ghost try_from_gives = { λ n frame. frame ≡ frame_of n };
+
+    // The frame of a number, or refusal 4.
+    fn try_from(number: i64) -> Result<Frame, Refusal> {
+        match number {
+            1 => Ok(Frame::Hae),
+            2 => Ok(Frame::Gei),
+            3 => Ok(Frame::Hci),
+            4 => Ok(Frame::Hee),
+            5 => Ok(Frame::Heeq),
+            _ => Err(Refusal::NoSuchFrame),
+        }
+    }
+}
 
 // Three coordinates by name, as a caller reads them.
 #[derive(Clone, Copy, Debug, PartialEq, Eq)]
@@ -101,17 +135,17 @@ pub fn heeq(earth: [i64; 3]) -> [[i64; 3]; 3]
     [vectors::cross(y, axis), y, axis]
 }
 
-// The rows that turn HAE into frame 2, 3, 4 or 5.
+// The rows that turn HAE into another frame.
 #[tactic(auto, unfolding(crate::specs::Frame::rotation_of))]
-pub fn rotation(frame: i64, earth: [i64; 3]) -> [[i64; 3]; 3]
-    requires has_rows { HasRows frame }
+pub fn rotation(frame: Frame, earth: [i64; 3]) -> [[i64; 3]; 3]
+    requires has_rows { HasRows (frame_number frame) }
     requires parts_within { PartsWithin 1000000000 earth }
-    ensures { result ≡ rotation_of frame earth }
+    ensures { result ≡ rotation_of (frame_number frame) earth }
 {
     match frame {
-        2 => gei(),
-        3 => hci(),
-        4 => hee(earth),
+        Frame::Gei => gei(),
+        Frame::Hci => hci(),
+        Frame::Hee => hee(earth),
         _ => heeq(earth),
     }
 }
@@ -132,13 +166,12 @@ pub fn needs_earth(frame: i64) -> bool
 
 // A vector of HAE in a frame, or back. It may be one that a turn to HAE gives.
 #[tactic(auto, unfolding(crate::specs::Frame::hae_turned))]
-fn hae_turned(back: bool, frame: i64, earth: [i64; 3], v: [i64; 3]) -> [i64; 3]
-    requires known_frame { KnownFrame frame }
-    requires earth_fits { EarthFits frame earth }
+fn hae_turned(back: bool, frame: Frame, earth: [i64; 3], v: [i64; 3]) -> [i64; 3]
+    requires earth_fits { EarthFits (frame_number frame) earth }
     requires no_longer { NoLonger 1732052000 v }
-    ensures { result ≡ hae_turned back frame earth v }
+    ensures { result ≡ hae_turned back (frame_number frame) earth v }
 {
-    if frame == 1 {
+    if frame == Frame::Hae {
         return v;
     }
     vectors::applied(vectors::way(rotation(frame, earth), back), v)
@@ -146,11 +179,11 @@ fn hae_turned(back: bool, frame: i64, earth: [i64; 3], v: [i64; 3]) -> [i64; 3]
 
 // A vector of one frame in another, by way of HAE. A frame to itself leaves it unchanged.
 #[tactic(auto, unfolding(crate::specs::Frame::turned_between))]
-pub fn turned_between(from: i64, to: i64, earth: [i64; 3], v: [i64; 3]) -> [i64; 3]
-    requires known_frame { KnownFrame from × EarthFits from earth }
-    requires known_frame_2 { KnownFrame to × EarthFits to earth }
+pub fn turned_between(from: Frame, to: Frame, earth: [i64; 3], v: [i64; 3]) -> [i64; 3]
+    requires from_fits { EarthFits (frame_number from) earth }
+    requires to_fits { EarthFits (frame_number to) earth }
     requires parts_within { PartsWithin 1000000000 v }
-    ensures { result ≡ turned_between from to earth v }
+    ensures { result ≡ turned_between (frame_number from) (frame_number to) earth v }
 {
     if from == to {
         return v;
