@@ -6,23 +6,24 @@ ghost use Rattle.std.specs.Prelude.{◌≡◌, ◌&&◌, ◌||◌};
 ghost use Rattle.integers.specs.Range.{Within};
 ghost use Rattle.integers.specs.Triple.{PartsWithin};
 ghost use Rattle.tables.specs.Table.{is_body};
-ghost use Rattle.frames.specs.Frame.{KnownFrame, is_frame, needs_earth, turned_between};
+ghost use Rattle.frames.specs.Frame.{is_frame, needs_earth, turned_between};
+ghost use Rattle.frames.specs.Frames.{frame_number};
 ghost use Rattle.frames.specs.Answer.{in_limits, as_coordinates};
 ghost use Rattle.places.specs.Answer.{earth_at, place_if, place_after, turn_if, turn_answer, au_answer};
 ghost use Rattle.places.specs.Earth.{earth_if};
 
 use angles::Sines;
 use dates::Date;
-use frames::Coordinates;
+use frames::{Coordinates, Frame};
 use projector::PlaceInAu;
 use refusals::Refusal;
 use tables::{Body, Moment};
 
 // The Earth's place, for frames that go by it; for the others it is not worked out.
-fn earth_for(sines: &Sines, moment: Moment, from: i64, to: i64) -> [i64; 3]
-    ensures { result ≡ earth_if (needs_earth from || needs_earth to) moment.table moment.minute }
+fn earth_for(sines: &Sines, moment: Moment, from: Frame, to: Frame) -> [i64; 3]
+    ensures { result ≡ earth_if (needs_earth (frame_number from) || needs_earth (frame_number to)) moment.table moment.minute }
 {
-    let needed = frames::needs_earth(from) | frames::needs_earth(to);
+    let needed = frames::needs_earth(from as i64) | frames::needs_earth(to as i64);
     if !needed {
         return [0, 0, 0];
     }
@@ -30,10 +31,9 @@ fn earth_for(sines: &Sines, moment: Moment, from: i64, to: i64) -> [i64; 3]
 }
 
 // A vector turned between two frames at a moment.
-fn turned_on(sines: &Sines, moment: Moment, from: i64, to: i64, v: [i64; 3]) -> Coordinates
-    requires known_frame { KnownFrame from × KnownFrame to }
-    requires parts_within { PartsWithin 1000000000 v }
-    ensures { result ≡ as_coordinates (turned_between from to (earth_at moment.table moment.minute) v) }
+fn turned_on(sines: &Sines, moment: Moment, from: Frame, to: Frame, v: [i64; 3]) -> Coordinates
+    requires { PartsWithin 1000000000 v }
+    ensures { result ≡ as_coordinates (turned_between (frame_number from) (frame_number to) (earth_at moment.table moment.minute) v) }
 {
     let earth = earth_for(sines, moment, from, to);
     Coordinates::from(frames::turned_between(from, to, earth, v))
@@ -49,11 +49,12 @@ fn place_on(
     ensures { result ≡ place_if (is_body body) (is_frame frame) moment.table body frame moment.minute }
 {
     let body = Body::try_from(body)?;
-    if !frames::is_frame(frame) {
-        return Err(Refusal::NoSuchFrame);
-    }
+    let frame = Frame::try_from(frame)?;
     let v = orbits::place_at(sines, moment, body);
-    Ok((moment.minute, turned_on(sines, moment, 1, frame, v)))
+    Ok((
+        moment.minute,
+        turned_on(sines, moment, Frame::Hae, frame, v),
+    ))
 }
 
 // The minute of a date and an offset, and the place of a body in a frame on it: refusals 1, 11, 2, 3, 4 in order. The row, the sheet,
@@ -97,12 +98,8 @@ fn turn_on(
 ) -> Result<Coordinates, Refusal>
     ensures { result ≡ turn_if (is_frame from && is_frame to) (in_limits v) moment.table from to v moment.minute }
 {
-    if !frames::is_frame(from) {
-        return Err(Refusal::NoSuchFrame);
-    }
-    if !frames::is_frame(to) {
-        return Err(Refusal::NoSuchFrame);
-    }
+    let from = Frame::try_from(from)?;
+    let to = Frame::try_from(to)?;
     if !frames::in_limits(v) {
         return Err(Refusal::TooFar);
     }

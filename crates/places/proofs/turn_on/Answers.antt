@@ -1,84 +1,54 @@
 -- `turn_on` gives refusal 4, then 5, else the turned vector.
--- Each test of the code is a part of the definition's.
-use mathlib.Core.Path.{◌≡◌, refl, subst, sym, ap, ◌∙◌}
+-- The frames of two numbers are there where the definition's tests say so; the test of the vector is the definition's.
+use borrow.Author.Rules.{rules}
 use mathlib.Core.Bool.{Bool, true, ◌&&◌}
-use lib.IntN.{ℤ, pos}
-use Rattle.integers.proofs.Cast.{read, back}
-use Rattle.frames.specs.Frame.{KnownFrame, is_frame, turned_between}
-use Rattle.frames.specs.Answer.{in_limits, as_coordinates}
+use mathlib.Core.Path.{◌≡◌, refl, sym, ap, ◌∙◌}
+use Rattle.std.specs.Prelude.{Ok, Err}
+use Rattle.integers.proofs.Cast.{back}
 use Rattle.integers.proofs.Triples.{parts_more}
+use Rattle.refusals.proofs.Handed.{handed_on}
+use Rattle.frames.specs.Frame.{is_frame, turned_between}
+use Rattle.frames.specs.Frames.{frame_number, frame_of}
+use Rattle.frames.specs.Answer.{in_limits, as_coordinates}
+use Rattle.frames.proofs.Numbers.{frame_is, no_frame_is}
 use Rattle.frames.proofs.Choice.{limits_parts}
 use Rattle.places.specs.Answer.{earth_at, turn_if}
-use Rattle.integers.proofs.Ranges.{inside_of}
 use Rattle.places.proofs.turn_on.Goals as goal
-use Rattle.places.proofs.turn_on.Goals.{After-is_frame, After-is_frame-2, Else-not-in_limits, Else-not-is_frame, Else-not-is_frame-2, Start}
-use Rattle.std.specs.Prelude.{Ok}
+use Rattle.places.proofs.turn_on.Goals.{After-in_limits, In_ok-from, In_ok-to, Start}
 
-module _ (s : Start) where
-  from_is : read s.args.from ≡ s.args.from
-  from_is = back s.args.from s.ranges.from
+-- the answer by the outcomes of the three tests
+by : (c : Start) {a b r : Bool} → is_frame c.args.from ≡ a → is_frame c.args.to ≡ b → in_limits c.args.v ≡ r → turn_if (a && b) r c.args.moment.table c.args.from c.args.to c.args.v c.args.moment.minute ≡ turn_if (is_frame c.args.from && is_frame c.args.to) (in_limits c.args.v) c.args.moment.table c.args.from c.args.to c.args.v c.args.moment.minute
+by c e f g i = turn_if (sym e i && sym f i) (sym g i) c.args.moment.table c.args.from c.args.to c.args.v c.args.moment.minute
 
-  to_is : read s.args.to ≡ s.args.to
-  to_is = back s.args.to s.ranges.to
+from_is : (c : In_ok-from) → (frame_number c.in_ok-from.from ≡ c.args.from) × (is_frame c.args.from ≡ true)
+from_is c = frame_is c.args.from c.in_ok-from.from (sym (c.in_ok-from.ensures ∙ ap frame_of (back c.args.from c.ranges.from)))
 
-  -- the answer by the outcomes of the three tests
-  by : {a b r : Bool} → is_frame s.args.from ≡ a → is_frame s.args.to ≡ b → in_limits s.args.v ≡ r → turn_if (is_frame s.args.from && is_frame s.args.to) (in_limits s.args.v) s.args.moment.table s.args.from s.args.to s.args.v s.args.moment.minute ≡ turn_if (a && b) r s.args.moment.table s.args.from s.args.to s.args.v s.args.moment.minute
-  by e f g i = turn_if (e i && f i) (g i) s.args.moment.table s.args.from s.args.to s.args.v s.args.moment.minute
+to_is : (c : In_ok-to) → (frame_number c.in_ok-to.to ≡ c.args.to) × (is_frame c.args.to ≡ true)
+to_is c = frame_is c.args.to c.in_ok-to.to (sym (c.in_ok-to.ensures ∙ ap frame_of (back c.args.to c.ranges.to)))
 
--- the tests' results, of the numbers themselves
-from_test : (c : After-is_frame) → is_frame c.before.args.from ≡ c.is_frame.result
-from_test c = sym (c.is_frame.ensures ∙ ap is_frame (from_is c.before))
+pub returns-in_err-from : goal.returns-in_err-from
+returns-in_err-from c =
+    let none = no_frame_is c.args.from c.in_err-from.field-0.0 (sym (c.in_err-from.ensures ∙ ap frame_of (back c.args.from c.ranges.from))) in
+    handed_on c.from_residual.ensures.1 ∙ ap Err none.0 ∙ by (goal.at.returns-in_err-from c).Start none.1 refl refl
 
-to_test : (c : After-is_frame-2) → is_frame c.before.before.before.args.to ≡ c.is_frame-2.result
-to_test c = sym (c.is_frame-2.ensures ∙ ap is_frame (to_is c.before.before.before))
-
-pub returns-then-not-is_frame : goal.returns-then-not-is_frame
-returns-then-not-is_frame c =
-    let d = c.before in
-    let s = d.before in
-    sym (by s (from_test d ∙ c.if-not-is_frame.true) refl refl)
-
-from_known : (c : Else-not-is_frame) → is_frame c.before.before.args.from ≡ true
-from_known c = from_test c.before ∙ c.if-not-is_frame.false
-
-pub returns-then-not-is_frame-2 : goal.returns-then-not-is_frame-2
-returns-then-not-is_frame-2 c =
-    let d = c.before in
-    let e = d.before in
-    let s = e.before.before in
-    sym (by s (from_known e) (to_test d ∙ c.if-not-is_frame-2.true) refl)
-
-to_known : (c : Else-not-is_frame-2) → is_frame c.before.before.before.before.args.to ≡ true
-to_known c = to_test c.before ∙ c.if-not-is_frame-2.false
+pub returns-in_err-to : goal.returns-in_err-to
+returns-in_err-to c =
+    let at = goal.at.returns-in_err-to c in
+    let none = no_frame_is c.args.to c.in_err-to.field-0.0 (sym (c.in_err-to.ensures ∙ ap frame_of (back c.args.to c.ranges.to))) in
+    handed_on c.from_residual-in_err-to.ensures.1 ∙ ap Err none.0 ∙ by at.Start (from_is at.In_ok-from).1 none.1 refl
 
 pub returns-then-not-in_limits : goal.returns-then-not-in_limits
 returns-then-not-in_limits c =
-    let d = c.before in
-    let e = d.before in
-    let s = e.before.before.before.before in
-    sym (by s (from_known e.before.before) (to_known e) (sym d.in_limits.ensures ∙ c.if-not-in_limits.true))
-
-near : (c : Else-not-in_limits) → in_limits c.before.before.before.before.before.before.args.v ≡ true
-near c = sym c.before.in_limits.ensures ∙ c.if-not-in_limits.false
-
-known_frame : (f : ℤ) → is_frame f ≡ true → KnownFrame f
-known_frame f e = inside_of (pos 1) (pos 5) f e
+    let at = goal.at.returns-then-not-in_limits c in
+    by at.Start (from_is at.In_ok-from).1 (to_is at.In_ok-to).1 (sym c.in_limits.ensures ∙ c.if-not-in_limits.true)
 
 pub turned_on-requires : goal.turned_on-requires
-turned_on-requires c =
-    let e = c.before.before in
-    let s = e.before.before.before.before in record {
-      known_frame = (
-        subst KnownFrame (sym (from_is s)) (known_frame s.args.from (from_known e.before.before)),
-        subst KnownFrame (sym (to_is s)) (known_frame s.args.to (to_known e)),
-      );
-      parts_within = parts_more (limits_parts s.args.v s.well_formed.1.1.1.1.0.1.0.1 (near c)) tt;
-    }
+turned_on-requires c = parts_more (limits_parts c.args.v (search rules) (sym c.in_limits.ensures ∙ c.if-not-in_limits.false)) tt
 
 pub returns : goal.returns
 returns c =
-    let n = c.before in
-    let e = n.before.before in
-    let s = e.before.before.before.before in
-    ap Ok (c.turned_on.ensures ∙ (λ i. as_coordinates (turned_between (from_is s i) (to_is s i) (earth_at s.args.moment.table s.args.moment.minute) s.args.v)))
-    ∙ sym (by s (from_known e.before.before) (to_known e) (near n))
+    let at = goal.at.returns c in
+    let f = from_is at.In_ok-from in
+    let g = to_is at.In_ok-to in
+    ap Ok (c.turned_on.ensures ∙ (λ i. as_coordinates (turned_between (f.0 i) (g.0 i) (earth_at c.args.moment.table c.args.moment.minute) c.args.v)))
+    ∙ by at.Start f.1 g.1 (sym c.in_limits.ensures ∙ c.if-not-in_limits.false)
