@@ -13,8 +13,9 @@ use Rattle.std.specs.Prelude.{Result, Ok, Err}
 use Rattle.refusals.specs.declared.Refusal.{Refusal}
 use Rattle.frames.specs.declared.Coordinates.{Coordinates}
 use Rattle.frames.specs.Frame.{rotation_of, hae_turned, turned_between}
-use Rattle.frames.specs.Answer.{in_limits, turned_status, turned_vector, opposite_coordinates, opposite_turned}
+use Rattle.frames.specs.Answer.{in_limits, turned_vector, opposite_coordinates, opposite_turned}
 use Rattle.frames.specs.Rtn.{rtn_rows, has_direction, answer_if, rtn_turned, to_rtn, from_rtn}
+use Rattle.refusals.specs.Number.{status_of}
 
 -- one of two vectors, whichever a test picks
 one_of : (b : Bool) (v w : List ℤ) {x y : List ℤ} → x ≡ opposite_of v → y ≡ opposite_of w → cond b x y ≡ opposite_of (cond b v w)
@@ -60,7 +61,7 @@ unfolding from_rtn
 from_rtn_opposite r v = rtn_opposite true r v
 
 -- ---- what a caller sees of the opposite answer: the same status, and opposite coordinates, zeros where it is refused
-pub opposite_status : (t : Result Coordinates Refusal) → turned_status (opposite_turned t) ≡ turned_status t
+pub opposite_status : (t : Result Coordinates Refusal) → status_of (opposite_turned t) ≡ status_of t
 opposite_status (Ok p) = refl
 opposite_status (Err r) = refl
 

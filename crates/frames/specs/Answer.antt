@@ -2,7 +2,6 @@
 use Rattle.std.specs.Prelude.{Bool, ◌&&◌, List, ℤ, pos, negsuc, neg_ℤ, Result, Ok, Err}
 use Rattle.integers.specs.Range.{is_from_to}
 use Rattle.integers.specs.Triple.{at, zeros}
-use Rattle.refusals.specs.Number.{number_of}
 use Rattle.frames.specs.declared.Coordinates.{Coordinates}
 use Rattle.refusals.specs.declared.Refusal.{Refusal}
 
@@ -16,11 +15,7 @@ in_limits v = part_in_limits (at v 0) && (part_in_limits (at v 1) && part_in_lim
 abbrev pub as_coordinates : List ℤ → Coordinates
 as_coordinates v = record { x = at v 0; y = at v 1; z = at v 2 }
 
--- document 01's number of an answer, 0 where there is a vector, and the vector, zeros where there is none
-abbrev pub turned_status : Result Coordinates Refusal → ℤ
-turned_status (Ok v) = pos 0
-turned_status (Err r) = number_of r
-
+-- the vector of an answer, zeros where there is none
 abbrev pub turned_vector : Result Coordinates Refusal → Coordinates
 turned_vector (Ok v) = v
 turned_vector (Err r) = as_coordinates zeros

@@ -10,8 +10,9 @@ use Rattle.angles.specs.Sine.{quarter_sine, half_sine, sine_of, cosine_of}
 use Rattle.refusals.specs.declared.Refusal.TheVariants.{TooFar, NoDirection}
 use Rattle.vectors.specs.Vector.{row_at, applied, length_of, unit_of, cross_of}
 use Rattle.frames.specs.Frame.{gei_rows, hci_rows, solar_axis, rotation_of, hae_turned, turned_between}
-use Rattle.frames.specs.Answer.{as_coordinates, turned_status}
+use Rattle.frames.specs.Answer.{as_coordinates}
 use Rattle.frames.specs.Rtn.{rtn_rows, rtn_turned, to_rtn, from_rtn}
+use Rattle.refusals.specs.Number.{status_of}
 
 -- (x, 0, 0)
 abbrev along : ℤ → List ℤ
@@ -25,7 +26,7 @@ pub no_place : to_rtn zeros (along (pos 10000000)) ≡ Err NoDirection
 unfolding to_rtn rtn_turned rtn_rows applied end_turn length_of unit_of cross_of solar_axis hci_rows root_of root_from cosine_of sine_of one_turn half_sine quarter_sine entry plus_terms minus_terms term whole part factorial
 no_place = refl
 
-pub limit_accepted : turned_status (to_rtn (along (pos 10000000)) (along (pos 500000000))) ≡ pos 0
+pub limit_accepted : status_of (to_rtn (along (pos 10000000)) (along (pos 500000000))) ≡ pos 0
 unfolding to_rtn rtn_turned rtn_rows applied end_turn length_of unit_of cross_of solar_axis hci_rows root_of root_from cosine_of sine_of one_turn half_sine quarter_sine entry plus_terms minus_terms term whole part factorial
 limit_accepted = refl
 

@@ -205,13 +205,6 @@ pub fn in_limits(v: [i64; 3]) -> bool
     v.iter().all(|&z| part_in_limits(z))
 }
 
-// A vector as a struct.
-pub fn as_coordinates(v: [i64; 3]) -> Coordinates
-    ensures { result ≡ as_coordinates v }
-{
-    Coordinates::from(v)
-}
-
 // The rows R, T, N.
 fn rtn(radial: [i64; 3], tangential: [i64; 3]) -> [[i64; 3]; 3]
     requires parts_within { PartsWithin 1000000000 radial }

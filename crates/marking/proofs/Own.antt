@@ -12,7 +12,7 @@ use lib.Pow.{are_bytes}
 use Rattle.std.specs.Prelude.{⊤, Some, None, Result, Ok, Err}
 use Rattle.integers.proofs.Ring.{abs_itself, abs_none}
 use Rattle.refusals.specs.declared.Refusal.{Refusal}
-use Rattle.refusals.specs.Number.{number_of}
+use Rattle.refusals.specs.Number.{number_of, status_of}
 use Rattle.refusals.proofs.Numbers.{number_not_0}
 use Rattle.dates.specs.declared.Date.{Date}
 use Rattle.dates.specs.declared.Date.TheVariants.{Minutes}
@@ -25,7 +25,7 @@ use Rattle.rows.specs.Fields.{row_size, row_table, good_row, bare_row, row_bytes
 use Rattle.rows.specs.Answer.{read_of}
 use Rattle.rows.proofs.RoundTrip.{what_is_read_is_a_row, what_is_read_has_its_size, its_bytes_are_those_read}
 use Rattle.rows.proofs.Taken.{good_is, good_by_status, refused_by_status}
-use Rattle.sheets.specs.Row.{row_for, row_told, answer_written, row_written, row_status}
+use Rattle.sheets.specs.Row.{row_for, row_told, answer_written, row_written}
 use Rattle.sheets.specs.Sheet.{answer_at, is_sheet, sheet_written, sheet_good}
 use Rattle.sheets.proofs.Laws.{row_by}
 use Rattle.sheets.proofs.Sheets.{a_row_call_leaves_a_row, a_sheet_keeps_the_length, row_k_is_read, FoundAt, no_row_is_refused}
@@ -67,7 +67,7 @@ what_a_row_call_leaves_is_right allowed date body frame before after h e = go (p
 
     go : (a : Result (ℤ × Coordinates) Refusal) → place_answer date row_table body frame ≡ a → RightRow allowed after
     go (Ok (m, p)) f = a_found_answer_is_right allowed date (pos 0) body frame after read m p f
-    go (Err r) f = absurd (number_not_0 r (ap row_status (ap row_told (sym f) ∙ ap (λ (w : Result ⊤ Refusal × List ℕ). w.0) written)))
+    go (Err r) f = absurd (number_not_0 r (ap status_of (ap row_told (sym f) ∙ ap (λ (w : Result ⊤ Refusal × List ℕ). w.0) written)))
 
 -- ---- "equal to our own rows": our row call for the row's own body, frame and minute tells of no refusal and leaves the row's bytes
 pub record OurOwn (bytes : List ℕ) : Type 0 where

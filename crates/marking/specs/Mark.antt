@@ -4,7 +4,6 @@ use Rattle.std.specs.Prelude.{Bool, true, false, ◌&&◌, List, ℕ, zero, suc,
 use Rattle.integers.specs.First.{first_picked}
 use Rattle.integers.specs.Range.{is_from_to}
 use Rattle.refusals.specs.declared.Refusal.TheVariants.{ShortBuffer, BadCount}
-use Rattle.refusals.specs.Number.{number_of}
 use Rattle.refusals.specs.declared.Refusal.{Refusal}
 use Rattle.rows.specs.Fields.{row_size}
 use Rattle.marking.specs.Wrong.{is_wrong_at}
@@ -27,12 +26,7 @@ mark_if true true bytes count allowed = mark_at (first_picked (is_wrong_at allow
 unfoldable pub mark_answer : List ℕ → (count allowed : ℤ) → Result (Option ℕ) Refusal
 mark_answer bytes count allowed = mark_if (is_markable count allowed) (leb (row_size * nat_abs count) (length bytes)) bytes (nat_abs count) (nat_abs allowed)
 
--- document 01's number of an answer, 0 where the sheet was marked, and the place of the first wrong row, 0 where there is none
-abbrev pub mark_status : Result (Option ℕ) Refusal → ℤ
-mark_status (Ok None) = pos 0
-mark_status (Ok (Some place)) = pos 0
-mark_status (Err r) = number_of r
-
+-- the place of the first wrong row, 0 where there is none
 abbrev pub mark_row : Result (Option ℕ) Refusal → ℕ
 mark_row (Ok None) = 0
 mark_row (Ok (Some place)) = place

@@ -1,8 +1,7 @@
 -- Document 01, "Rows and sheets" and refusals 8 and 9: the answer to a reader, and to a writer with what it leaves behind.
-use Rattle.std.specs.Prelude.{Bool, true, false, ◌&&◌, List, ◌++◌, ℕ, leb, ℤ, pos, length, drop, Result, Ok, Err, ⊤}
+use Rattle.std.specs.Prelude.{Bool, true, false, ◌&&◌, List, ◌++◌, ℕ, leb, pos, length, drop, Result, Ok, Err, ⊤}
 use Rattle.refusals.specs.declared.Refusal.{Refusal}
 use Rattle.refusals.specs.declared.Refusal.TheVariants.{ShortBuffer, NoRow}
-use Rattle.refusals.specs.Number.{number_of}
 use Rattle.rows.specs.declared.Row.{Row}
 use Rattle.layouts.specs.Layout.{numbers_in}
 use Rattle.rows.specs.Fields.{row_size, widths1, bare_row, row_bytes, row_from, is_row, are_row}
@@ -16,11 +15,7 @@ found_if false row = Err NoRow
 unfoldable pub read_of : List ℕ → Result Row Refusal
 read_of bytes = found_if (leb row_size (length bytes) && are_row (numbers_in widths1 bytes)) (row_from (numbers_in widths1 bytes))
 
--- document 01's number of an answer, and the row read, zeros where there is none
-abbrev pub read_status : Result Row Refusal → ℤ
-read_status (Ok row) = pos 0
-read_status (Err refusal) = number_of refusal
-
+-- the row of an answer, zeros where there is none
 abbrev pub read_row : Result Row Refusal → Row
 read_row (Ok row) = row
 read_row (Err refusal) = bare_row (pos 0)
@@ -35,8 +30,3 @@ written_if true true row before = (Ok tt, row_bytes row ++ drop row_size before)
 -- the answer to a writer, and the bytes that it leaves
 unfoldable pub written : Row → List ℕ → Result ⊤ Refusal × List ℕ
 written row before = written_if (leb row_size (length before)) (is_row row) row before
-
--- document 01's number of a writer's answer
-abbrev pub written_status : Result ⊤ Refusal → ℤ
-written_status (Ok done) = pos 0
-written_status (Err refusal) = number_of refusal

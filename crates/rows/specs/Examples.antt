@@ -7,7 +7,8 @@ use Rattle.tables.specs.Table.{interval_of}
 use Rattle.layouts.specs.Bytes.{big_endian, big_from, field_bytes}
 use Rattle.layouts.specs.Layout.{bytes_of, numbers_in}
 use Rattle.rows.specs.Fields.{good_row, bare_row, row_bytes, refused_bytes, is_good, is_refused, is_row, are_row, status_at}
-use Rattle.rows.specs.Answer.{read_of, read_status, read_row, written}
+use Rattle.rows.specs.Answer.{read_of, read_row, written}
+use Rattle.refusals.specs.Number.{status_of}
 
 -- a layout of three fields: -1 has all bits set at any width, and only eight bytes say that it is below zero
 pub three_fields : (bytes_of (1 ∷ 2 ∷ 8 ∷ []) (pos 7 ∷ negsuc 0 ∷ negsuc 0 ∷ []) ≡ 7 ∷ replicate 10 255) × (numbers_in (1 ∷ 2 ∷ 8 ∷ []) (7 ∷ replicate 10 255) ≡ pos 7 ∷ pos 65535 ∷ negsuc 0 ∷ [])
@@ -68,7 +69,7 @@ unfolding read_of are_row is_row is_good is_refused interval_of numbers_in big_f
 readings_are = refl
 
 -- a slice that is no row has document 01's number 9, and zeros
-pub nothing_read : (read_status (read_of []) ≡ pos 9) × (read_row (read_of []) ≡ bare_row (pos 0))
+pub nothing_read : (status_of (read_of []) ≡ pos 9) × (read_row (read_of []) ≡ bare_row (pos 0))
 unfolding read_of
 nothing_read = (refl, refl)
 

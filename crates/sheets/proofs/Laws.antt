@@ -21,7 +21,7 @@ use Rattle.dates.proofs.Laws.{step_small}
 use Rattle.places.specs.Answer.{place_answer}
 use Rattle.rows.specs.Fields.{row_size, row_table, good_row}
 use Rattle.rows.proofs.RoundTrip.{a_row_has_its_size, a_refused_row_has_its_size}
-use Rattle.sheets.specs.Row.{bytes_for, row_told, answer_written, row_if, row_written, row_status}
+use Rattle.sheets.specs.Row.{bytes_for, row_told, answer_written, row_if, row_written}
 use Rattle.sheets.specs.Sheet.{answer_at, rows_of, one_if, good_of, is_sheet, sheet_if, sheet_written}
 use Rattle.frames.specs.declared.Coordinates.{Coordinates}
 use Rattle.refusals.specs.declared.Refusal.{Refusal}
@@ -32,7 +32,7 @@ bytes_long body frame (Ok (m, p)) = a_row_has_its_size (good_row body frame m p.
 bytes_long body frame (Err r) = a_refused_row_has_its_size (number_of r)
 
 -- the status of an answer's row is the number of the answer
-pub row_status_is : (answer : Result (ℤ × Coordinates) Refusal) → row_status (row_told answer) ≡ status_of answer
+pub row_status_is : (answer : Result (ℤ × Coordinates) Refusal) → status_of (row_told answer) ≡ status_of answer
 row_status_is (Ok (m, p)) = refl
 row_status_is (Err r) = refl
 

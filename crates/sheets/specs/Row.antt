@@ -1,6 +1,6 @@
 -- Document 01, "Rows and sheets": the row of a date, a body and a frame, byte for byte; refusals 1, 2, 3, 4 stand in the row, and
 -- refusal 8 leaves the buffer untouched.
-use Rattle.std.specs.Prelude.{Bool, true, false, List, ◌++◌, ℕ, leb, ℤ, pos, length, drop, ⊤, Result, Ok, Err}
+use Rattle.std.specs.Prelude.{Bool, true, false, List, ◌++◌, ℕ, leb, ℤ, length, drop, ⊤, Result, Ok, Err}
 use Rattle.refusals.specs.declared.Refusal.{Refusal}
 use Rattle.refusals.specs.declared.Refusal.TheVariants.{ShortBuffer}
 use Rattle.refusals.specs.Number.{number_of}
@@ -37,8 +37,3 @@ row_if true body frame answer before = answer_written body frame answer before
 -- what a row call tells, and the bytes that are left; the place is Table 1's (02, Item 1)
 unfoldable pub row_written : Date → ℤ → ℤ → List ℕ → Result ⊤ Refusal × List ℕ
 row_written date body frame before = row_if (leb row_size (length before)) body frame (place_answer date row_table body frame) before
-
--- its status: document 01's number of a refusal, or 0
-abbrev pub row_status : Result ⊤ Refusal → ℤ
-row_status (Ok found) = pos 0
-row_status (Err r) = number_of r

@@ -4,7 +4,6 @@ use Rattle.integers.specs.Range.{is_from_to}
 use Rattle.integers.specs.Buffer.{blocks}
 use Rattle.refusals.specs.declared.Refusal.{Refusal}
 use Rattle.refusals.specs.declared.Refusal.TheVariants.{ShortBuffer, BadCount}
-use Rattle.refusals.specs.Number.{number_of}
 use Rattle.dates.specs.declared.Date.{Date}
 use Rattle.dates.specs.Moment.{is_step}
 use Rattle.places.specs.Answer.{place_after}
@@ -47,11 +46,7 @@ unfoldable pub sheet_written : Date → ℤ → ℤ → ℤ → ℤ → List ℕ
 sheet_written start step count body frame before =
     sheet_if (is_sheet step count) (leb (row_size * nat_abs count) (length before)) start step (nat_abs count) body frame before
 
--- document 01's number for the sheet as a whole, and how many of its rows have status 0: with a refusal "count 0"
-abbrev pub sheet_status : Result ℕ Refusal → ℤ
-sheet_status (Ok good) = pos 0
-sheet_status (Err r) = number_of r
-
+-- how many rows of a sheet have status 0: with a refusal "count 0"
 abbrev pub sheet_good : Result ℕ Refusal → ℕ
 sheet_good (Ok good) = good
 sheet_good (Err r) = 0

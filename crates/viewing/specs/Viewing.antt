@@ -6,7 +6,7 @@ use Rattle.integers.specs.Range.{is_from_to}
 use Rattle.integers.specs.Sign.{same}
 use Rattle.refusals.specs.declared.Refusal.{Refusal}
 use Rattle.refusals.specs.declared.Refusal.TheVariants.{NoSuchBody, BadCount, NoSuchDate}
-use Rattle.refusals.specs.Number.{number_of}
+use Rattle.refusals.specs.Number.{status_of}
 use Rattle.dates.specs.declared.Date.{Date}
 use Rattle.dates.specs.Moment.{is_step}
 use Rattle.tables.specs.Table.{is_body, moment_after}
@@ -59,17 +59,13 @@ unfoldable pub viewing_answer : Date → (table step count body : ℤ) → Searc
 viewing_answer start table step count body = viewing_by (is_search step count) (span_moment start table step count) table body step (nat_abs count)
 
 -- the number of what a search ended with, and its minute: "A refusal's date is 0"
-abbrev pub found_status : Result ℤ Refusal → ℤ
-found_status (Ok m) = pos 0
-found_status (Err r) = number_of r
-
 abbrev pub found_minute : Result ℤ Refusal → ℤ
 found_minute (Ok m) = m
 found_minute (Err r) = pos 0
 
 -- the number of an answer, its minute and how many dates were looked at: 0 with a refusal, "but for 12"
 abbrev pub viewing_status : Search → ℤ
-viewing_status s = found_status s.found
+viewing_status s = status_of s.found
 
 abbrev pub viewing_minute : Search → ℤ
 viewing_minute s = found_minute s.found
