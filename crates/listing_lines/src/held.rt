@@ -4,9 +4,9 @@ ghost use Rattle.std.specs.Prelude.{◌≡◌, ◌≤◌, take, set};
 // The first bytes of a line, at most 36. The longest request has 35, so a longer line is no request whether or not the rest is known.
 #[derive(Clone, Copy, Debug, PartialEq, Eq)]
 pub struct HeldLine {
-    text: [u8; 36],
-    len: usize,
-    ghost few: { len ≤ 36 },
+    pub text: [u8; 36],
+    pub len: usize,
+    pub ghost few: { len ≤ 36 },
 }
 
 impl HeldLine {
