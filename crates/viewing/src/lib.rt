@@ -61,13 +61,24 @@ fn aspect_at(sines: &Sines, moment: Moment, body: Body) -> Aspect
     }
 }
 
-// The minute of date k of a walk, counted from 0.
-fn minute_at(first: i64, step: i64, k: usize) -> i64
-    requires within { Within 2630000000 first × Within 1000000 step }
-    requires k_bound { k ≤ 4000 }
-    ensures { result ≡ minute_at first step k }
-{
-    first + step * (k as i64)
+// A walk of dates: the minute of the first, the minutes from one to the next, and how many. Each is a minute of the table's interval.
+#[derive(Clone, Copy, Debug)]
+struct Walk {
+    table: i64,
+    first: i64,
+    step: i64,
+    count: usize,
+    ghost fits: { SpanFits table first step count },
+}
+
+impl Walk {
+    // The minute of date k, counted from 0.
+    fn minute(self, k: usize) -> i64
+        requires { k ≤ 4000 }
+        ensures { result ≡ minute_at self.first self.step k }
+    {
+        self.first + self.step * (k as i64)
+    }
 }
 
 // Whether a date of this aspect is a hit, after one of this cross product.
@@ -79,23 +90,18 @@ fn is_hit(before: i64, aspect: Aspect) -> bool
 }
 
 // How many dates pass before the first hit, if there is one. Before the first date stands a cross product of 0, which is opposite to nothing.
-fn first_hit(
-    sines: &Sines,
-    table: i64,
-    body: Body,
-    first: i64,
-    step: i64,
-    count: usize,
-) -> Option<usize>
-    requires { SpanFits table first step count }
+fn first_hit(sines: &Sines, walk: Walk, planet: Body) -> Option<usize>
     ensures { MatchOption result
-        (first_picked (is_hit table (body_number body) first step) count ≡ 0)
-        (λ k. first_picked (is_hit table (body_number body) first step) count ≡ k + 1) }
+        (first_picked (is_hit walk.table (body_number planet) walk.first walk.step) walk.count ≡ 0)
+        (λ k. first_picked (is_hit walk.table (body_number planet) walk.first walk.step) walk.count ≡ k + 1) }
 {
     let mut before = 0;
-    for k in 0..count {
-        let minute = minute_at(first, step, k);
-        let aspect = aspect_at(sines, Moment { table, minute }, body);
+    for k in 0..walk.count {
+        let moment = Moment {
+            table: walk.table,
+            minute: walk.minute(k),
+        };
+        let aspect = aspect_at(sines, moment, planet);
         if is_hit(before, aspect) {
             return Some(k);
         }
@@ -143,31 +149,29 @@ fn none_looked_at(refusal: Refusal) -> Search
     }
 }
 
-// The answer of a search for a planet on a span that is accepted; refusal 12 where there is no hit.
-fn search_for(table: i64, planet: Body, first: i64, step: i64, count: usize) -> Search
-    requires { SpanFits table first step count }
-    ensures { result ≡ found_at first step count (first_picked (is_hit table (body_number planet) first step) count) }
+// The answer of a search for a planet on a walk; refusal 12 where there is no hit.
+fn search_for(walk: Walk, planet: Body) -> Search
+    ensures { result ≡ found_at walk.first walk.step walk.count (first_picked (is_hit walk.table (body_number planet) walk.first walk.step) walk.count) }
 {
     let sines = Sines::new();
-    match first_hit(&sines, table, planet, first, step, count) {
+    match first_hit(&sines, walk, planet) {
         Some(passed) => Search {
             looked: passed + 1,
-            found: Ok(minute_at(first, step, passed)),
+            found: Ok(walk.minute(passed)),
         },
         None => Search {
-            looked: count,
+            looked: walk.count,
             found: Err(Refusal::NoSuchDate),
         },
     }
 }
 
-// The answer on a span that is accepted: refusal 3, then 12.
-fn viewing_from(table: i64, first: i64, step: i64, count: usize, body: i64) -> Search
-    requires { SpanFits table first step count }
-    ensures { result ≡ viewing_if (is_planet body) table body first step count }
+// The answer on a walk: refusal 3, then 12.
+fn viewing_from(walk: Walk, body: i64) -> Search
+    ensures { result ≡ viewing_if (is_planet body) walk.table body walk.first walk.step walk.count }
 {
     match planet_of(body) {
-        Ok(planet) => search_for(table, planet, first, step, count),
+        Ok(planet) => search_for(walk, planet),
         Err(refusal) => none_looked_at(refusal),
     }
 }
@@ -180,7 +184,16 @@ pub fn viewing(start: Date, table: i64, step: i64, count: i64, body: i64) -> Sea
         return none_looked_at(Refusal::BadCount);
     }
     match span_moment(start, table, step, count) {
-        Ok(first) => viewing_from(table, first, step, count as usize, body),
+        Ok(first) => {
+            let count = count as usize;
+            let walk = Walk {
+                table,
+                first,
+                step,
+                count,
+            };
+            viewing_from(walk, body)
+        }
         Err(refusal) => none_looked_at(refusal),
     }
 }

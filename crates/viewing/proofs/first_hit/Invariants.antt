@@ -9,6 +9,6 @@ use Rattle.viewing.proofs.first_hit.Given as goal
 
 abbrev pub invariant-loop-k : goal.invariant-loop-k
 invariant-loop-k l = record {
-  none_before : NoneBelow (is_hit l.table (body_number l.body) l.first l.step) l.k;
-  cross_is : l.before ≡ cross_before l.table (body_number l.body) l.first l.step l.k;
+  none_before : NoneBelow (is_hit l.walk.table (body_number l.planet) l.walk.first l.walk.step) l.k;
+  cross_is : l.before ≡ cross_before l.walk.table (body_number l.planet) l.walk.first l.walk.step l.k;
 }

@@ -54,11 +54,13 @@ overflow_cast-count c =
     let t = (within (goal.at.overflow_cast-count c).Else-not-is_search).count_range in
     cast_fits {x = n} {z = n} refl (omega (zarith, t.low)) (omega (arith, range_most 1 n t))
 
-pub viewing_from-requires : goal.viewing_from-requires
-viewing_from-requires c =
+pub invariant_of-walk : goal.invariant_of-walk
+invariant_of-walk c =
     let first = read c.in-Ok.first in
-    span_fits c.args.start (read c.args.table) (read c.args.step) (read c.args.count) first (within (goal.at.viewing_from-requires c).Else-not-is_search)
-    (span_is c.args.start (read c.args.table) (read c.args.step) (read c.args.count) first (span_told (goal.at.viewing_from-requires c).In-Ok))
+    record {
+      fits = span_fits c.args.start (read c.args.table) (read c.args.step) (read c.args.count) first (within (goal.at.invariant_of-walk c).Else-not-is_search)
+          (span_is c.args.start (read c.args.table) (read c.args.step) (read c.args.count) first (span_told (goal.at.invariant_of-walk c).In-Ok));
+    }
 
 pub returns-in-Ok : goal.returns-in-Ok
 returns-in-Ok c =
