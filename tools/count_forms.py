@@ -21,7 +21,7 @@ def sources(commit):
 
 FUNCTION = re.compile(
     r"^(?P<indent> *)(?P<pub>pub(?:\(crate\))? )?(?:extern \"C\" )?fn (?P<name>\w+)(?:<[^(]*>)?\((?P<given>.*?)\)(?: -> (?P<answer>.*?))?"
-    r"(?=\n *requires|\n *ensures|\n? *\{\n)(?P<clauses>.*?)\n?(?P=indent)\{\n(?P<body>.*?)\n(?P=indent)\}",
+    r"(?: \{|(?=\n *requires|\n *ensures)(?P<clauses>(?:(?!\n(?P=indent)\{\n).)*)\n(?P=indent)\{)\n(?P<body>.*?)\n(?P=indent)\}",
     re.M | re.S,
 )
 
@@ -51,7 +51,7 @@ def places(commit):
             elif "Debug" not in re.search(r"#\[derive\(([^)]*)\)\]\npub " + kind + " " + name + r"\b", text)[1]:
                 found["4 type without Debug and ="].append(f"{crate} {name}")
     for crate, f in functions(commit):
-        name, given, clauses, body = f["name"], f["given"], f["clauses"], f["body"]
+        name, given, clauses, body = f["name"], f["given"], f["clauses"] or "", f["body"]
         answer = (f["answer"] or "").strip()
         kinds = re.findall(r"\b(table|body|frame|from|to): i64", given)
         where = "1 kinds as numbers, C" if crate == "lindenbrood" else "1 kinds as numbers, public" if f["pub"] else "1 kinds as numbers, private"

@@ -1,9 +1,9 @@
 // What C gives and gets back: a date in one struct, and each answer as a struct of its number and its values.
 #![tactic(auto)]
 
-ghost use Rattle.std.specs.Prelude.{◌≡◌, pos};
+ghost use Rattle.std.specs.Prelude.{◌≡◌};
 ghost use Rattle.refusals.specs.Number.{status_of};
-ghost use Rattle.answers.specs.Answer.{date_of, c_angle, six_elements, c_elements, three_counts, c_counts, c_vector, three_doubles, c_place, searched, c_viewing};
+ghost use Rattle.answers.specs.Answer.{date_of, c_angle, c_elements, three_counts, c_counts, c_vector, three_doubles, c_place, c_viewing};
 ghost use Rattle.answers.specs.Lent.{row_fields, c_row, c_sheet, c_mark};
 
 use angles::Angle;

@@ -1,5 +1,5 @@
 // What is held of a line that has not ended.
-ghost use Rattle.std.specs.Prelude.{◌≡◌, ◌≤◌, take, set};
+ghost use Rattle.std.specs.Prelude.{◌≡◌, ◌≤◌, set};
 
 // The first bytes of a line, at most 36. The longest request has 35, so a longer line is no request whether or not the rest is known.
 #[derive(Clone, Copy, Debug, PartialEq, Eq)]

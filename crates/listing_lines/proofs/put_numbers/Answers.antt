@@ -14,7 +14,6 @@ use Rattle.listing_lines.specs.Put.{Put}
 use Rattle.listing_lines.proofs.Puts.{put_none, put_then}
 use Rattle.listing_lines.proofs.Texts.{spaced, spaced_more, seven}
 use Rattle.listing_lines.proofs.put_numbers.Goals as goal
-use Rattle.listing_lines.proofs.put_numbers.Goals.{Start}
 
 pub loop-n-init : goal.loop-n-init
 unfolding spaced

@@ -14,7 +14,7 @@ use Rattle.frames.proofs.Numbers.{frame_is, no_frame_is}
 use Rattle.frames.proofs.Choice.{limits_parts}
 use Rattle.places.specs.Answer.{earth_at, turn_if}
 use Rattle.places.proofs.turn_on.Goals as goal
-use Rattle.places.proofs.turn_on.Goals.{After-in_limits, In_ok-from, In_ok-to, Start}
+use Rattle.places.proofs.turn_on.Goals.{In_ok-from, In_ok-to, Start}
 
 -- the answer by the outcomes of the three tests
 by : (c : Start) {a b r : Bool} → is_frame c.args.from ≡ a → is_frame c.args.to ≡ b → in_limits c.args.v ≡ r → turn_if (a && b) r c.args.moment.table c.args.from c.args.to c.args.v c.args.moment.minute ≡ turn_if (is_frame c.args.from && is_frame c.args.to) (in_limits c.args.v) c.args.moment.table c.args.from c.args.to c.args.v c.args.moment.minute
