@@ -99,7 +99,7 @@ fn finish<W: Write>(
         (take ready.old.len ready.old.bytes ++ last_of (held_of held.now))) }
 {
     ready.make_room(output)?;
-    let end = listing_lines::put_last(sines, held, &mut ready.bytes, ready.len);
+    let end = listing_lines::put_last(sines, held.bytes(), &mut ready.bytes, ready.len);
     output.write_all(&ready.bytes[..end])
 }
 

@@ -34,3 +34,8 @@ without z n f h e = go z h ∙ ap decimal_of (sym (e ∙ ap nat_abs (back z f)))
     go : (z : ℤ) → pos 0 ≤ℤ z → signed_of z ≡ decimal_of (nat_abs z)
     go (pos n) h = refl
     go (negsuc n) h = absurd h.le
+
+-- a size is at most 2^63
+pub abs_small : (z : ℤ) → SFits w64 z → nat_abs z ≤ 2 ^ 63
+abs_small (pos n) f = omega (arith, f.sfits)
+abs_small (negsuc n) f = omega (arith, f.sfits)

@@ -197,11 +197,11 @@ pub fn put_line(sines: &Sines, request: Option<Request>, bytes: &mut [u8], at: u
 }
 
 // The printed line of what is held of a line.
-fn put_held(sines: &Sines, held: &HeldLine, bytes: &mut [u8], at: usize) -> usize
+fn put_held(sines: &Sines, line: &[u8], bytes: &mut [u8], at: usize) -> usize
     requires { at + 147 ≤ length bytes.old }
-    ensures { Put at (printed_of (held_of held.now)) bytes.old bytes.new result × (result ≤ at + 147) }
+    ensures { Put at (printed_of line.now) bytes.old bytes.new result × (result ≤ at + 147) }
 {
-    put_line(sines, request_in(held.bytes()), bytes, at)
+    put_line(sines, request_in(line), bytes, at)
 }
 
 // A part of the input: the lines that end in it are printed, at most 147 bytes for a byte, and what follows the last is held.
@@ -214,7 +214,7 @@ pub fn feed(sines: &Sines, part: &[u8], held: &mut HeldLine, bytes: &mut [u8], a
     let mut next = at;
     for &b in part {
         if b == b'\n' {
-            next = put_held(sines, held, bytes, next);
+            next = put_held(sines, held.bytes(), bytes, next);
             held.clear();
         } else {
             held.push(b);
@@ -224,12 +224,12 @@ pub fn feed(sines: &Sines, part: &[u8], held: &mut HeldLine, bytes: &mut [u8], a
 }
 
 // The end of the input: what is held is a line without its end, where it is not empty.
-pub fn put_last(sines: &Sines, held: &HeldLine, bytes: &mut [u8], at: usize) -> usize
+pub fn put_last(sines: &Sines, line: &[u8], bytes: &mut [u8], at: usize) -> usize
     requires { at + 147 ≤ length bytes.old }
-    ensures { Put at (last_of (held_of held.now)) bytes.old bytes.new result × (result ≤ at + 147) }
+    ensures { Put at (last_of line.now) bytes.old bytes.new result × (result ≤ at + 147) }
 {
-    if held.bytes().is_empty() {
+    if line.is_empty() {
         return at;
     }
-    put_held(sines, held, bytes, at)
+    put_held(sines, line, bytes, at)
 }
