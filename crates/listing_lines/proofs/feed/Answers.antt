@@ -24,7 +24,7 @@ loop-b-preserved c =
       | then-b-eq10 w ↦
           let e = w.if-b-eq10.true in
           let printed = subst (λ (t : List ℕ). Put c.loop-b.next (printed_of t) c.loop-b.bytes w.put_held-next.new.bytes w.put_held-next.result)
-              w.bytes.ensures w.put_held-next.ensures.0 in
+          w.bytes.ensures w.put_held-next.ensures.0 in
           rw (w.held-is, w.bytes-is, w.next-is) (
             fed_end before now w.clear.new.self l i within v.0 e w.clear.ensures.len w.clear.ensures.text,
             prints_end before now w.clear.new.self l i within v.0 v.1 e (omega (arith, c.requires)) printed w.put_held-next.ensures.1,
