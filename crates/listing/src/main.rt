@@ -3,7 +3,7 @@
 // of a read or a write, which end the program: of what was ready then, any part may have gone out.
 #![tactic(auto)]
 
-ghost use Rattle.std.specs.Prelude.{◌≡◌, [], ◌++◌, ◌-◌, ◌^◌, ◌≤◌, ◌<◌, length, take, IfOk, OnOk, IfSome};
+ghost use Rattle.std.specs.Prelude.{◌≡◌, [], ◌++◌, ◌-◌, ◌^◌, ◌≤◌, ◌<◌, length, take, IfOk, OnOk, OnErr, IfSome};
 ghost use Rattle.std.specs.Io.KnownBytes.{Appends};
 ghost use Rattle.listing.specs.Listing.{Sends, IsTurn};
 ghost use Rattle.listing_lines.specs.Held.{held_of};
@@ -39,6 +39,8 @@ impl Ready {
         ensures few { IfOk result (λ _. self.new.len ≤ 27904) }
         ensures sent { OnOk result (Sends (W.contents output.old) (W.contents output.new)
             (take self.old.len self.old.bytes) (take self.new.len self.new.bytes)) }
+        ensures kept { self.new.bytes ≡ self.old.bytes }
+        ensures unsent { OnErr result (self.new.len ≡ self.old.len) }
     {
         if 27_904 < self.len {
             output.write_all(&self.bytes[..self.len])?;
